@@ -1,0 +1,150 @@
+-- The laws of reading: a record that is known lies within the bytes, each reading goes forward, and one more record is one more turn of the parser.
+-- Assumes nothing.
+use Prim.Native.Nat.{ℕ, zero, suc, _+_, _-_, _≤_, _<_}
+use native.Mathlib.Omega.{arith}
+use native.Mathlib.Nat.{add-assoc, add-zero}
+use borrow.Author.Tests.{le-leb, lt-leb, leb-true, leb-false, ltb-false}
+use mathlib.Core.Path.{_≡_, refl, sym, ap, _∙_}
+use mathlib.Core.Bool.{Bool, true, false, cond}
+use mathlib.Core.List.{List, [], _∷_}
+use mathlib.Core.Option.{Option, none, some}
+use lib.Dec.{leb, ltb}
+use lib.ListN.{length, getD, drop, length-drop}
+use lib.Seq.{getD-drop}
+use Rattle.cells.specs.Cells.{le, Bytes}
+use Rattle.cells.proofs.Laws.{le-lt}
+use Rattle.rules.specs.declared.Kind.{Kind}
+use Rattle.rules.specs.declared.Kind.the-variants.{Get, Peek, Remove, Insert, Evict, Clear}
+use Rattle.rules.specs.declared.Row.{Row}
+use Rattle.rules.specs.Records.{Request, Sized, AllSized}
+use Rattle.rules.specs.Bytes.{row, table, find, Spot, at, unknown, cut, over, within, spotAt, made, Reading, ask, strange, short, end, reading, readAt, End, whole, Parsed, ends, with, onReading, walk, parseFrom, parse}
+use Rattle.rules.proofs.TableLaws.{find-known, row-bytes}
+
+-- ---- the tests that a known record has passed
+
+inner : (t : Bool) (j k : Kind) → cond t cut (at j) ≡ at k → (t ≡ false) × (j ≡ k)
+inner true j k h = let z : _≡_ {A = ℕ} 0 1 = cc in absurd (omega arith)
+inner false j k h = (refl, cc)
+
+picked : (a b : Bool) (left : ℕ) (f : Option Row) (k : Kind) → cond a over (cond b cut (within left f)) ≡ at k
+    → (b ≡ false) × ((r : Row) × (f ≡ some r) × (ltb left (r .bytes) ≡ false) × (r .kind ≡ k))
+picked true b left f k h = let z : _≡_ {A = ℕ} 0 1 = cc in absurd (omega arith)
+picked false true left f k h = let z : _≡_ {A = ℕ} 0 1 = cc in absurd (omega arith)
+picked false false left none k h = let z : _≡_ {A = ℕ} 0 1 = cc in absurd (omega arith)
+picked false false left (some r) k h = let i = inner (ltb left (r .bytes)) (r .kind) k h in (refl, (r, refl, i .0, i .1))
+
+-- all its bytes are there
+pub known : (s : List ℕ) (i : ℕ) (k : Kind) → spotAt s i ≡ at k → i + row k .bytes ≤ length s
+unfolding spotAt
+known s i k h =
+    let f = find (getD s i 0) (getD s (i + 1) 0) table in
+    let p = picked (leb (length s) i) (ltb (length s - i) 2) (length s - i) f k h in
+    let r : Row = p .1 .0 in
+    let e : r ≡ row (r .kind) = find-known (getD s i 0) (getD s (i + 1) 0) r (p .1 .1) in
+    omega (arith, ltb-false (length s - i) 2 (p .0), ltb-false (length s - i) (r .bytes) (p .1 .2), ap (λ x. x .bytes) e, ap (λ j. row j .bytes) (p .1 .3))
+
+goes : (s : List ℕ) (i : ℕ) (p : Spot) → spotAt s i ≡ p → (q : Request) (after : ℕ) → reading s i p ≡ ask q after → (i < after) × (after ≤ length s)
+goes s i (at k) e q after r =
+    let h : i + row k .bytes ≡ after = cc in
+    omega (arith, known s i k e, row-bytes k)
+goes s i unknown e q after r = let z : _≡_ {A = ℕ} 0 1 = cc in absurd (omega arith)
+goes s i cut e q after r = let z : _≡_ {A = ℕ} 0 1 = cc in absurd (omega arith)
+goes s i over e q after r = let z : _≡_ {A = ℕ} 0 1 = cc in absurd (omega arith)
+
+-- a request that was read lies within the bytes, and the next offset is further
+pub read-goes : (s : List ℕ) (i : ℕ) (q : Request) (after : ℕ) → readAt s i ≡ ask q after → (i < after) × (after ≤ length s)
+unfolding readAt
+read-goes s i q after e = goes s i (spotAt s i) refl q after e
+
+pub read-end : (s : List ℕ) (i : ℕ) → length s ≤ i → readAt s i ≡ end
+unfolding readAt spotAt
+read-end s i h = rw (le-leb (length s) i h)
+
+-- ---- one record more is one turn more
+
+module _ (s : List ℕ) where
+  enough-step : (n m i : ℕ) → ((after : ℕ) → i < after → walk (readAt s) n after ≡ walk (readAt s) m after)
+      → (r : Reading) → readAt s i ≡ r → onReading (walk (readAt s) n) i r ≡ onReading (walk (readAt s) m) i r
+  enough-step n m i ih (ask q after) e = ap (with q) (ih after (read-goes s i q after e .0))
+  enough-step n m i ih strange e = refl
+  enough-step n m i ih short e = refl
+  enough-step n m i ih end e = refl
+
+  -- where there are as many turns as bytes left, more change nothing
+  enough : (n m i : ℕ) → length s ≤ i + n → length s ≤ i + m → walk (readAt s) n i ≡ walk (readAt s) m i
+  unfolding walk
+  enough zero zero i h g = refl
+  enough zero (suc m) i h g = rw (read-end s i (omega arith))
+  enough (suc n) zero i h g = rw (read-end s i (omega arith))
+  enough (suc n) (suc m) i h g =
+      enough-step n m i (λ after l. enough n m after (omega arith) (omega arith)) (readAt s i) refl
+
+  pub parse-step : (i : ℕ) → parseFrom s i ≡ onReading (parseFrom s) i (readAt s i)
+  unfolding parseFrom walk
+  parse-step i = enough (length s) (suc (length s)) i (omega arith) (omega arith)
+
+-- ---- bytes give numbers of 64 bits
+
+made-sized : (s : List ℕ) (i : ℕ) (k : Kind) → Bytes s → Sized (made s i k)
+made-sized s i Get h = le-lt 8 s (i + 2) h
+made-sized s i Peek h = le-lt 8 s (i + 2) h
+made-sized s i Remove h = le-lt 8 s (i + 2) h
+made-sized s i Insert h = (le-lt 8 s (i + 2) h, le-lt 8 s (i + 10) h)
+made-sized s i Evict h = tt
+made-sized s i Clear h = tt
+
+abbrev sizes : Reading → Type 0
+sizes (ask q after) = Sized q
+sizes strange = Unit {0}
+sizes short = Unit {0}
+sizes end = Unit {0}
+
+reading-sized : (s : List ℕ) (i : ℕ) (p : Spot) → Bytes s → sizes (reading s i p)
+reading-sized s i (at k) h = made-sized s i k h
+reading-sized s i unknown h = tt
+reading-sized s i cut h = tt
+reading-sized s i over h = tt
+
+read-sized : (s : List ℕ) (i : ℕ) → Bytes s → sizes (readAt s i)
+unfolding readAt
+read-sized s i h = reading-sized s i (spotAt s i) h
+
+turn-sized : (more : ℕ → Parsed) (i : ℕ) (r : Reading) → sizes r → ((after : ℕ) → AllSized (more after .requests)) → AllSized (onReading more i r .requests)
+turn-sized more i (ask q after) z ih = (z, ih after)
+turn-sized more i strange z ih = tt
+turn-sized more i short z ih = tt
+turn-sized more i end z ih = tt
+
+walk-sized : (s : List ℕ) (n i : ℕ) → Bytes s → AllSized (walk (readAt s) n i .requests)
+unfolding walk
+walk-sized s zero i h = tt
+walk-sized s (suc n) i h = turn-sized (walk (readAt s) n) i (readAt s i) (read-sized s i h) (λ after. walk-sized s n after h)
+
+pub parse-sized : (s : List ℕ) → Bytes s → AllSized (parse s .requests)
+unfolding parse parseFrom
+parse-sized s h = walk-sized s (length s) 0 h
+
+-- ---- reading from a part that starts in the middle is reading further on in the whole
+
+pub le-drop : (w n : ℕ) (s : List ℕ) (i : ℕ) → le w (drop n s) i ≡ le w s (n + i)
+unfolding le
+le-drop zero n s i = refl
+le-drop (suc w) n s i = rw (getD-drop n s i 0, le-drop w n s (i + 1), add-assoc n i 1)
+
+leb-drop : (l n i : ℕ) (b : Bool) → leb l (n + i) ≡ b → leb (l - n) i ≡ b
+leb-drop l n i true e = le-leb (l - n) i (omega (arith, leb-true l (n + i) e))
+leb-drop l n i false e = lt-leb (l - n) i (omega (arith, leb-false l (n + i) e))
+
+pub spot-drop : (n : ℕ) (s : List ℕ) (i : ℕ) → spotAt (drop n s) i ≡ spotAt s (n + i)
+unfolding spotAt
+spot-drop n s i =
+    let e : length s - n - i ≡ length s - (n + i) = omega arith in
+    rw (length-drop n s, leb-drop (length s) n i (leb (length s) (n + i)) refl, e, getD-drop n s i 0, getD-drop n s (i + 1) 0, add-assoc n i 1)
+
+pub made-drop : (n : ℕ) (s : List ℕ) (i : ℕ) (k : Kind) → made (drop n s) i k ≡ made s (n + i) k
+made-drop n s i Get = rw (le-drop 8 n s (i + 2), add-assoc n i 2)
+made-drop n s i Peek = rw (le-drop 8 n s (i + 2), add-assoc n i 2)
+made-drop n s i Remove = rw (le-drop 8 n s (i + 2), add-assoc n i 2)
+made-drop n s i Insert = rw (le-drop 8 n s (i + 2), le-drop 8 n s (i + 10), add-assoc n i 2, add-assoc n i 10)
+made-drop n s i Evict = refl
+made-drop n s i Clear = refl

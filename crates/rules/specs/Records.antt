@@ -1,0 +1,41 @@
+-- Requests and replies, before they are bytes (01, "Marks and bytes").
+-- Assumes nothing.
+use Prim.Native.Nat.{ℕ, _<_}
+use mathlib.Core.List.{List, [], _∷_, _++_}
+use Rattle.rules.specs.State.{State, words}
+
+pub data Request : Type 0 where
+  GT PK RM : ℕ → Request
+  IN : ℕ → ℕ → Request
+  EV CL : Request
+
+pub data Reply : Type 0 where
+  MI OK : Reply
+  HI RE NW GO : ℕ → Reply
+  EX ES EM : ℕ → ℕ → Reply
+
+-- its numbers have 64 bits
+abbrev pub Sized : Request → Type 0
+Sized (GT k) = k < words
+Sized (PK k) = k < words
+Sized (RM k) = k < words
+Sized (IN k v) = (k < words) × (v < words)
+Sized EV = Unit {0}
+Sized CL = Unit {0}
+
+abbrev pub AllSized : List Request → Type 0
+AllSized [] = Unit {0}
+AllSized (r ∷ rs) = Sized r × AllSized rs
+
+-- what a request, or a run of them, comes to
+pub record Outcome : Type 0 where
+  pub state : State
+  pub replies : List Reply
+
+-- one reply
+abbrev pub says : State → Reply → Outcome
+says σ r = record { state = σ; replies = r ∷ [] }
+
+-- replies that were made before
+abbrev pub tellFirst : List Reply → Outcome → Outcome
+tellFirst rs o = record { state = o .state; replies = rs ++ o .replies }

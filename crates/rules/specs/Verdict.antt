@@ -1,0 +1,66 @@
+-- The verdict on a whole call: what is turned away, in the order of 01's table, and what an accepted call gives.
+-- Assumes nothing.
+use Prim.Native.Nat.{ℕ}
+use mathlib.Core.Bool.{Bool, true, false, cond}
+use mathlib.Core.List.{List, [], _∷_}
+use lib.Dec.{ltb}
+use lib.ListN.{length}
+use Rattle.rules.specs.State.{Limits, State, emptyAt}
+use Rattle.rules.specs.Records.{Request, Outcome}
+use Rattle.rules.specs.Requests.{run}
+use Rattle.rules.specs.Bytes.{End, whole, unknownAt, cutAt, Parsed, parse, roomFor, encodeAll}
+
+-- the longest requests of one call
+abbrev pub mostRequestBytes : ℕ
+mostRequestBytes = 32768
+
+-- turned away by a number, with a detail; or done: the state, and the reply bytes
+pub data Verdict : Type 0 where
+  refused : ℕ → ℕ → Verdict
+  done : State → List ℕ → Verdict
+
+-- a row of the table of refusals: when, the number, the detail
+pub record Row : Type 0 where
+  pub when : Bool
+  pub number : ℕ
+  pub detail : ℕ
+
+-- the first row that applies, and the verdict where none does
+abbrev pub unless : List Row → Verdict → Verdict
+unless [] v = v
+unless (r ∷ rs) v = cond (r .when) (refused (r .number) (r .detail)) (unless rs v)
+
+-- ---- running requests
+
+-- what a store reads as: too short, damaged, or a sound state
+pub data Reads : Type 0 where
+  short damaged : Reads
+  reads : State → Reads
+
+-- whether there is a record that is none, and its offset
+abbrev pub broken : End → Bool
+broken whole = false
+broken (unknownAt i) = true
+broken (cutAt i) = true
+
+abbrev pub brokenAt : End → ℕ
+brokenAt whole = 0
+brokenAt (unknownAt i) = i
+brokenAt (cutAt i) = i
+
+-- rows 8 to 10, for requests of so many bytes that parse so, and room for so many reply bytes
+abbrev pub runRows : ℕ → Parsed → ℕ → List Row
+runRows bytes p room =
+    record { when = ltb mostRequestBytes bytes; number = 8; detail = 0 }
+    ∷ record { when = broken (p .end); number = 9; detail = brokenAt (p .end) }
+    ∷ record { when = ltb room (roomFor (p .requests)); number = 10; detail = roomFor (p .requests) }
+    ∷ []
+
+abbrev pub finished : Outcome → Verdict
+finished o = done (o .state) (encodeAll (o .replies))
+
+unfoldable pub call : Reads → List ℕ → ℕ → Verdict
+unfolding parse run encodeAll roomFor
+call short bs room = refused 6 0
+call damaged bs room = refused 7 0
+call (reads σ) bs room = unless (runRows (length bs) (parse bs) room) (finished (run σ (parse bs .requests)))

@@ -1,0 +1,3 @@
+pub mod SpliceLaws
+pub mod PlaceLaws
+pub mod SurveyLaws

@@ -1,0 +1,12 @@
+-- `nodes::set_head` meets its contract.
+-- Assumes nothing.
+use borrow.Author.Needs.{needs}
+use Rattle.nodes.proofs.NodesLaws.{wrote}
+use Rattle.nodes.proofs.set_head.Statement.{statement}
+use Rattle.nodes.proofs.set_head.Tie as tie
+
+returns : tie.Need-returns
+returns c = search (needs, wrote)
+
+pub set-head-spec : {M : Type 1} → statement M
+set-head-spec = tie.close (tie.spec (λ c. search needs) (λ c. search needs) (λ c κs. search needs) (λ c. search needs) returns)

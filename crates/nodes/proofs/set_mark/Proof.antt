@@ -1,0 +1,20 @@
+-- `nodes::set_mark` meets its contract.
+-- Assumes nothing.
+use borrow.Author.Needs.{needs}
+use Rattle.nodes.proofs.NodesLaws.{wrote}
+use Rattle.nodes.proofs.set_mark.Statement.{statement}
+use Rattle.nodes.proofs.set_mark.Tie as tie
+
+returns : tie.Need-returns
+returns c = search (needs, wrote)
+
+pub set-mark-spec : {M : Type 1} → statement M
+set-mark-spec =
+    tie.close
+    (tie.spec
+    (λ c. search needs)
+    (λ c. search needs)
+    (λ c. search needs)
+    (λ c κs. search needs)
+    (λ c. search needs)
+    returns)

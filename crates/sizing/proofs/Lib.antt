@@ -1,0 +1,12 @@
+pub mod Rows
+pub mod RoundLaws
+pub mod FloatsLaws
+pub mod PatternsLaws
+pub mod MagnitudeLaws
+pub mod ProductsLaws
+pub mod CutLaws
+pub mod OrderLaws
+pub mod RecordLaws
+pub mod NearestLaws
+pub mod AcceptedLaws
+pub mod AnswersLaws

@@ -1,0 +1,145 @@
+-- The laws of the index: which nodes are live is all that counts, and how a node comes in and goes out.
+-- Assumes nothing.
+use mathlib.Core.Path.{_≡_, refl, sym, _∙_, ap}
+use mathlib.Core.List.{List, [], _∷_, _++_}
+use mathlib.Core.Logic.{_⊎_, inl, inr, ⊎-elim, _≢_}
+use Prim.Native.Nat.{ℕ, _+_, _*_, _/_, _%_, _^_, _≤_, _<_}
+use native.Mathlib.Omega.{arith}
+use native.Mathlib.Decide.{ℕ-discrete}
+use native.Mathlib.Nat.{mul-lt-mul-of-pos-right}
+use Rattle.key_index.specs.Links.{In, Links}
+use Rattle.key_index.specs.Index.{bucketOf, Clean, Chain, Index}
+use Rattle.key_index.proofs.LinksLaws.{in-more, in-less, same, stays}
+use Rattle.key_index.proofs.FewLaws.{links-distinct, distinct-out}
+
+pub bucket-below : (k buckets : ℕ) → 0 < buckets → bucketOf k buckets < buckets
+unfolding bucketOf
+bucket-below k buckets h =
+    let small : (k / 2 ^ 32 * 2246822507 + k % 2 ^ 32) % 2 ^ 32 * 2654435769 % 2 ^ 32 < 2 ^ 32 = omega arith in
+    omega (arith, mul-lt-mul-of-pos-right small h)
+
+-- the column g is f with v at x
+pub record Put (f : ℕ → ℕ) (x v : ℕ) (g : ℕ → ℕ) : Type 0 where
+  pub same : g x ≡ v
+  pub other : (y : ℕ) → y ≢ x → g y ≡ f y
+
+-- only which nodes are live counts
+pub reframe : {n buckets : ℕ} {key link head : ℕ → ℕ} {live live′ : ℕ → Type 0}
+    → ((y : ℕ) → live y → live′ y) → ((y : ℕ) → live′ y → live y)
+    → Index n buckets key link head live → Index n buckets key link head live′
+reframe to from ix =
+    record {
+      chains = λ b h. let c = ix .chains b h in record {
+        clean = record { whole = c .clean .whole; sound = λ y i. (to y (c .clean .sound y i .0), c .clean .sound y i .1) };
+        full = λ y l e. c .full y (from y l) e;
+      };
+      unique = λ x y l m e. ix .unique x y (from x l) (from y m) e;
+    }
+
+-- where no node is live and no bucket has a first node, there is an index
+pub empty : {n buckets : ℕ} {key link head : ℕ → ℕ} {live : ℕ → Type 0}
+    → ((y : ℕ) → live y → ⊥) → ((b : ℕ) → b < buckets → n ≤ head b) → Index n buckets key link head live
+empty {head = head} dead ends =
+    record {
+      chains = λ b h. record {
+        clean = record { whole = record { nodes = []; end = head b; out = ends b h; links = refl }; sound = λ y i. absurd i };
+        full = λ y l e. dead y l;
+      };
+      unique = λ x y l m e. absurd (dead x l);
+    }
+
+module _ (n buckets : ℕ) (key link head : ℕ → ℕ) (live : ℕ → Type 0) (ix : Index n buckets key link head live) where
+  -- a node x that was not live gets a key that no live node has, at the head of its chain
+  module _ (key′ link′ head′ : ℕ → ℕ) (x k : ℕ) (below : x < n) (dead : live x → ⊥) (new : (y : ℕ) → live y → key y ≡ k → ⊥)
+      (pk : Put key x k key′) (pl : Put link x (head (bucketOf k buckets)) link′) (ph : Put head (bucketOf k buckets) x head′) where
+    not-x : (y : ℕ) → live y → y ≢ x
+    not-x y l e = dead (rw e at l)
+
+    old : (y : ℕ) → live y → key′ y ≡ key y
+    old y l = pk .other y (not-x y l)
+
+    -- the chains of the nodes that were live stay
+    kept : {b : ℕ} → (c : Clean n buckets key link head live b) → Links n link′ (head b) (c .whole .nodes) (c .whole .end)
+    kept {b} c =
+        let w = c .whole in
+        stays n link link′ (head b) (w .nodes) (w .end) (λ y i. pl .other y (not-x y (c .sound y i .0))) (w .links)
+
+    add-chain : (b : ℕ) → b < buckets → Chain n buckets key′ link′ head′ (λ y. (y ≡ x) ⊎ live y) b
+    add-chain b h = go (ix .chains b h) (ℕ-discrete b (bucketOf k buckets))
+      where
+        go : Chain n buckets key link head live b → Dec (b ≡ bucketOf k buckets) → Chain n buckets key′ link′ head′ (λ y. (y ≡ x) ⊎ live y) b
+        go c (yes e) =
+            let w = c .clean .whole in
+            let sound = c .clean .sound in
+            record {
+              clean = record {
+                whole = record {
+                  nodes = x ∷ w .nodes;
+                  end = w .end;
+                  out = w .out;
+                  links = (rw e (ph .same), below, rw (pl .same, ← e) (kept (c .clean)));
+                };
+                sound = λ y. ⊎-elim (λ q. (inl q, rw (q, pk .same) (sym e)))
+                    (λ i. (inr (sound y i .0), rw (old y (sound y i .0)) (sound y i .1)));
+              };
+              full = λ y l q. ⊎-elim (λ r. inl r) (λ m. inr (c .full y m (rw (old y m) at q))) l;
+            }
+        go c (no ne) =
+            let w = c .clean .whole in
+            let sound = c .clean .sound in
+            record {
+              clean = record {
+                whole = record { nodes = w .nodes; end = w .end; out = w .out; links = rw (ph .other b ne) (kept (c .clean)) };
+                sound = λ y i. (inr (sound y i .0), rw (old y (sound y i .0)) (sound y i .1));
+              };
+              full = λ y l q. ⊎-elim (λ r. absurd (ne (sym q ∙ ap (λ z. bucketOf z buckets) (ap key′ r ∙ pk .same)))) (λ m. c .full y m (rw (old y m) at q)) l;
+            }
+
+    pub added : Index n buckets key′ link′ head′ (λ y. (y ≡ x) ⊎ live y)
+    added = record { chains = add-chain; unique = only }
+      where
+        only : (y z : ℕ) → (y ≡ x) ⊎ live y → (z ≡ x) ⊎ live z → key′ y ≡ key′ z → y ≡ z
+        only y z (inl p) (inl q) e = p ∙ sym q
+        only y z (inl p) (inr m) e = absurd (new z m (sym (old z m) ∙ sym e ∙ ap key′ p ∙ pk .same))
+        only y z (inr l) (inl q) e = absurd (new y l (sym (old y l) ∙ e ∙ ap key′ q ∙ pk .same))
+        only y z (inr l) (inr m) e = ix .unique y z l m (sym (old y l) ∙ e ∙ old z m)
+
+  -- a live node x has left its chain: the nodes of that chain but x are linked anew, and the links of the other chains stay
+  module _ (link′ head′ : ℕ → ℕ) (x b e : ℕ) (s t : List ℕ) (out : n ≤ e)
+      (was : Links n link (head b) (s ++ x ∷ t) e) (is : Links n link′ (head′ b) (s ++ t) e)
+      (keep : (y : ℕ) → live y → bucketOf (key y) buckets ≢ b → link′ y ≡ link y) (heads : (a : ℕ) → a ≢ b → head′ a ≡ head a)
+      (own : bucketOf (key x) buckets ≡ b) where
+    remove-chain : (a : ℕ) → a < buckets → Chain n buckets key link′ head′ (λ y. live y × (y ≢ x)) a
+    remove-chain a h = go (ix .chains a h) (ℕ-discrete a b)
+      where
+        go : Chain n buckets key link head live a → Dec (a ≡ b) → Chain n buckets key link′ head′ (λ y. live y × (y ≢ x)) a
+        go c (yes q) =
+            let w = c .clean .whole in
+            let all : w .nodes ≡ s ++ x ∷ t = same n link (head b) (w .nodes) (s ++ x ∷ t) (w .end) e (w .out) out (rw q at (w .links)) was in
+            let x-out : In x (s ++ t) → ⊥ = distinct-out x s t (links-distinct n link e out (head b) (s ++ x ∷ t) was) .1 in
+            record {
+              clean = record {
+                whole = record { nodes = s ++ t; end = e; out = out; links = rw q is };
+                sound = λ y i. let u = c .clean .sound y (rw all (in-more y x s t i)) in ((u .0, λ r. x-out (rw r at i)), u .1);
+              };
+              full = λ y l r. in-less y x s t (l .1) (rw all at (c .full y (l .0) r));
+            }
+        go c (no ne) =
+            let w = c .clean .whole in
+            let sound = c .clean .sound in
+            record {
+              clean = record {
+                whole = record {
+                  nodes = w .nodes;
+                  end = w .end;
+                  out = w .out;
+                  links = rw (heads a ne) (stays n link link′ (head a) (w .nodes) (w .end)
+                      (λ y i. keep y (sound y i .0) (λ r. ne (sym (sound y i .1) ∙ r))) (w .links));
+                };
+                sound = λ y i. let u = sound y i in ((u .0, λ r. ne (sym (u .1) ∙ ap (λ z. bucketOf (key z) buckets) r ∙ own)), u .1);
+              };
+              full = λ y l r. c .full y (l .0) r;
+            }
+
+    pub removed : Index n buckets key link′ head′ (λ y. live y × (y ≢ x))
+    removed = record { chains = remove-chain; unique = λ y z l m q. ix .unique y z (l .0) (m .0) q }

@@ -1,0 +1,11 @@
+pub mod LinksLaws
+pub mod FewLaws
+pub mod IndexLaws
+pub mod FindLaws
+pub mod RemoveLaws
+pub mod CheckLaws
+pub mod LiveLaws
+pub mod StoreLaws
+pub mod TestLaws
+pub mod SetUpLaws
+pub mod WriteLaws

@@ -1,0 +1,120 @@
+-- The laws of the index at the store's columns: each takes what was read and written, and what the tests said of it.
+-- Assumes nothing.
+use mathlib.Core.Path.{_≡_, refl, sym, _∙_, ap}
+use mathlib.Core.List.{List}
+use mathlib.Core.Logic.{_⊎_, _≢_}
+use Prim.Native.Nat.{ℕ, _+_, _<_}
+use native.Mathlib.Omega.{arith}
+use lib.ListN.{length, getD, set}
+use Rattle.nodes.specs.Nodes.{Field, Key, Chain, Bucket, cols, over, with, Room, Wrote, Reads}
+use Rattle.nodes.specs.declared.Shape.{Shape}
+use Rattle.nodes.proofs.NodesLaws.{length-cols}
+use Rattle.nodes.proofs.OverLaws.{over-with, with-same}
+use Rattle.key_index.specs.declared.Found.{Found}
+use Rattle.key_index.specs.declared.Found.the-variants.{At}
+use Rattle.key_index.specs.Links.{Whole}
+use Rattle.key_index.specs.Index.{bucketOf}
+use Rattle.key_index.specs.Walks.{FirstIs, Goes, Cut}
+use Rattle.key_index.specs.Stored.{col, LiveIn, IndexOf, Indexes, Miss, IsFound, headOf, withFirst, Leaves}
+use Rattle.key_index.proofs.FewLaws.{depth, depth-falls}
+use Rattle.key_index.proofs.IndexLaws.{bucket-below, Put, added}
+use Rattle.key_index.proofs.FindLaws.{Seen, seen-found, seen-next, seen-whole, index-whole, index-at, index-nothing}
+use Rattle.key_index.proofs.RemoveLaws.{Way, way-cut, way-next, way-on, way-below, goes, remove-first, remove-later}
+use Rattle.key_index.proofs.LiveLaws.{put-set}
+
+-- ---- the lookup's walk, which has come to the node h
+
+module _ (z : Shape) (s : List ℕ) {k h₀ h : ℕ} (w : Seen (z .room) (col (cols z s Key)) (col (cols z s Chain)) k h₀ h) (b : h < z .room) where
+  module _ {r : ℕ} (is : Reads z s Key h r) where
+    pub walk-found : r ≡ k → FirstIs (z .room) (col (cols z s Key)) (col (cols z s Chain)) k h₀ (At h)
+    walk-found e = seen-found h w b (sym (is .value) ∙ e)
+
+    pub walk-next : (r ≡ k → ⊥) → {m : ℕ} → Reads z s Chain h m → Seen (z .room) (col (cols z s Key)) (col (cols z s Chain)) k h₀ m
+    walk-next ne on = rw (on .value) (seen-next h w b (λ e. ne (is .value ∙ e)))
+
+  pub walk-less : Whole (z .room) (col (cols z s Chain)) h₀ → {m : ℕ} → Reads z s Chain h m
+      → depth (z .room) (col (cols z s Chain)) (z .room) m < depth (z .room) (col (cols z s Chain)) (z .room) h
+  walk-less all on = rw (on .value) (depth-falls (z .room) (col (cols z s Chain)) h (seen-whole h w all) b)
+
+-- ---- the walk to the node in front of x, which has come to the node p
+
+module _ (z : Shape) (s : List ℕ) {h x p m : ℕ} (w : Way (z .room) (col (cols z s Chain)) h x p) (on : Reads z s Chain p m) where
+  pub way-found : m ≡ x → Cut (z .room) (col (cols z s Chain)) h x p
+  way-found e = way-cut p w (sym (on .value) ∙ e)
+
+  pub way-on-to : (m ≡ x → ⊥) → Way (z .room) (col (cols z s Chain)) h x m
+  way-on-to ne = rw (on .value) (way-next p w (λ e. ne (on .value ∙ e)))
+
+  pub way-less : depth (z .room) (col (cols z s Chain)) (z .room) (getD (cols z s Chain) m 0)
+      < depth (z .room) (col (cols z s Chain)) (z .room) (getD (cols z s Chain) p 0)
+  way-less = rw (on .value) (depth-falls (z .room) (col (cols z s Chain)) (getD (cols z s Chain) p 0) (way-on p w) (way-below p w))
+
+-- ---- one cell written
+
+put-node : (z : Shape) (s : List ℕ) (f : Field) → length (cols z s f) ≡ z .room + 4 → (x v : ℕ) → x < z .room → Put (col (cols z s f)) x v (col (set (cols z s f) x v))
+put-node z s f e x v h = put-set (cols z s f) x v (omega (arith, h, e))
+
+put-head : (z : Shape) (s : List ℕ) (b v : ℕ) → b < z .buckets → Put (col (cols z s Bucket)) b v (col (set (cols z s Bucket) b v))
+put-head z s b v h = put-set (cols z s Bucket) b v (omega (arith, h, length-cols z s Bucket refl))
+
+module _ (z : Shape) (s : List ℕ) (room : Room z s) (ixs : Indexes z (cols z s)) where
+  abbrev ix : IndexOf z (cols z s) (LiveIn z (cols z s))
+  ix = ixs .index
+
+  abbrev some : 0 < z .buckets
+  some = room .some-buckets
+
+  -- ---- find
+
+  module _ (k : ℕ) {b h : ℕ} (eb : b ≡ bucketOf k (z .buckets)) (eh : Reads z s Bucket b h) where
+    there : h ≡ headOf z (cols z s) k
+    there = eh .value ∙ ap (λ (y : ℕ). getD (cols z s Bucket) y 0) eb
+
+    pub starts : Whole (z .room) (col (cols z s Chain)) h
+    starts = rw there (index-whole ix some k)
+
+    pub finds : (r : Found) → FirstIs (z .room) (col (cols z s Key)) (col (cols z s Chain)) k h r → IsFound z (cols z s) k r
+    finds r f = record {
+      hit = λ x e. let g = index-at ix some k x (rw (there, e) at f) in record { lives = g .0; holds = g .1 };
+      miss = λ e. record { none = index-nothing ix some k (rw (there, e) at f) };
+    }
+
+  -- ---- remove
+
+  module _ {x : ℕ} (lives : LiveIn z (cols z s) x) {k b h : ℕ} (ek : Reads z s Key x k) (eb : b ≡ bucketOf k (z .buckets)) (eh : Reads z s Bucket b h) where
+    own : b ≡ bucketOf (getD (cols z s Key) x 0) (z .buckets)
+    own = eb ∙ ap (λ (y : ℕ). bucketOf y (z .buckets)) (ek .value)
+
+    pub leads : h ≢ x → Goes (z .room) (col (cols z s Chain)) h x
+    leads ne = rw (eh .value) (goes ix some x lives b own (rw (eh .value) at ne))
+
+    module _ {next : ℕ} (en : Reads z s Chain x next) (t : List ℕ) where
+      pub leaves-first : h ≡ x → Wrote z s t Bucket b next → Leaves z (cols z s) (cols z t) x
+      leaves-first e w = record {
+        chain = cols z s Chain;
+        bucket = set (cols z s Bucket) b next;
+        columns = rw (with-same (cols z s) Chain) (w .columns ∙ over-with (cols z s) Bucket b next);
+        index = rw (en .value) (remove-first ix some x lives b own (put-head z s b (getD (cols z s Chain) x 0) (rw eb (bucket-below k (z .buckets) some))) (sym (eh .value) ∙ e));
+      }
+
+      pub leaves-later : {p : ℕ} → h ≢ x → Cut (z .room) (col (cols z s Chain)) h x p → Wrote z s t Chain p next → Leaves z (cols z s) (cols z t) x
+      unfolding with
+      leaves-later {p} ne c w = record {
+        chain = set (cols z s Chain) p next;
+        bucket = cols z s Bucket;
+        columns = w .columns ∙ over-with (cols z s) Chain p next ∙ sym (with-same (with (cols z s) Chain (set (cols z s Chain) p next)) Bucket);
+        index = rw (en .value) (remove-later ix some x lives b own p (put-node z s Chain (length-cols z s Chain refl) p (getD (cols z s Chain) x 0) (c .below))
+            (rw (eh .value) at ne) (rw (eh .value) at c));
+      }
+
+  -- ---- add
+
+  -- x, which was not live, has come in with a key that no live node has
+  pub joined : {x k : ℕ} → x < z .room → (LiveIn z (cols z s) x → ⊥) → Miss z (cols z s) k
+      → IndexOf z (withFirst z (cols z s) x k) (λ y. (y ≡ x) ⊎ LiveIn z (cols z s) y)
+  unfolding withFirst over
+  joined {x} {k} below dead new =
+      added (z .room) (z .buckets) (col (cols z s Key)) (col (cols z s Chain)) (col (cols z s Bucket)) (LiveIn z (cols z s)) ix
+      (col (set (cols z s Key) x k)) (col (set (cols z s Chain) x (headOf z (cols z s) k))) (col (set (cols z s Bucket) (bucketOf k (z .buckets)) x))
+      x k below dead (new .none) (put-node z s Key (length-cols z s Key refl) x k below) (put-node z s Chain (length-cols z s Chain refl) x (headOf z (cols z s) k) below)
+      (put-head z s (bucketOf k (z .buckets)) x (bucket-below k (z .buckets) some))

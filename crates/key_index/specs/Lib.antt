@@ -1,0 +1,4 @@
+pub mod Links
+pub mod Index
+pub mod Walks
+pub mod Stored

@@ -1,0 +1,10 @@
+pub mod EveryLaws
+pub mod SegLaws
+pub mod RingLaws
+pub mod Pigeon
+pub mod PoolLaws
+pub mod StoreLaws
+pub mod ListsLaws
+pub mod FrameLaws
+pub mod CheckLaws
+pub mod FreshLaws

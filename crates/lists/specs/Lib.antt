@@ -1,0 +1,5 @@
+pub mod Ring
+pub mod Pool
+pub mod Lists
+pub mod Check
+pub mod Fresh

@@ -5,9 +5,11 @@ use mathlib.Core.Bool.{Bool, true, false, cond}
 use mathlib.Core.List.{List, [], _∷_}
 use lib.Dec.{ltb}
 use lib.ListN.{length}
+use lib.Ieee.{Float}
 use Rattle.rules.specs.State.{Limits, State, emptyAt}
 use Rattle.rules.specs.Records.{Request, Outcome}
 use Rattle.rules.specs.Requests.{run}
+use Rattle.rules.specs.Sizing.{Sized, limits, refused as misfit, sizing, sizingUpTo}
 use Rattle.rules.specs.Bytes.{End, whole, unknownAt, cutAt, Parsed, parse, roomFor, encodeAll}
 
 -- the longest requests of one call
@@ -29,6 +31,25 @@ pub record Row : Type 0 where
 abbrev pub unless : List Row → Verdict → Verdict
 unless [] v = v
 unless (r ∷ rs) v = cond (r .when) (refused (r .number) (r .detail)) (unless rs v)
+
+-- ---- creating
+
+-- the one fixed size of a store
+abbrev pub storeBytes : ℕ
+storeBytes = 57600
+
+-- row 6
+abbrev pub createRows : ℕ → List Row
+createRows bytes = record { when = ltb bytes storeBytes; number = 6; detail = 0 } ∷ []
+
+abbrev pub onSized : ℕ → Sized → Verdict
+onSized bytes (misfit n) = refused n 0
+onSized bytes (limits L) = unless (createRows bytes) (done (emptyAt L) [])
+
+-- settings, and a store of so many bytes: rows 1 to 6
+unfoldable pub create : ℕ → Float → Float → ℕ → Verdict
+unfolding sizingUpTo
+create capacity small ghost bytes = onSized bytes (sizing capacity small ghost)
 
 -- ---- running requests
 

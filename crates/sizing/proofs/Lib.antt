@@ -1,4 +1,3 @@
-pub mod Rows
 pub mod RoundLaws
 pub mod FloatsLaws
 pub mod PatternsLaws
@@ -10,3 +9,4 @@ pub mod RecordLaws
 pub mod NearestLaws
 pub mod AcceptedLaws
 pub mod AnswersLaws
+pub mod CreatedLaws

@@ -17,9 +17,13 @@ pub data Turn : Type 0 where
   moved : Queue → State → Turn
   left : Queue → Entry → State → Turn
 
--- the queue whose tail is popped: Small above its limit, otherwise Main unless it is empty
+-- Small holds more than its limit
+abbrev pub above : State → Bool
+above σ = ltb (σ .limits .smallLimit) (length (σ .small))
+
+-- the queue whose tail is popped
 abbrev pub victim : State → Queue
-victim σ = cond (ltb (σ .limits .smallLimit) (length (σ .small)) || null (σ .main)) Small Main
+victim σ = cond (above σ || null (σ .main)) Small Main
 
 -- whether a popped entry goes back
 abbrev pub wanted : Entry → Bool

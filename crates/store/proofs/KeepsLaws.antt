@@ -1,0 +1,209 @@
+-- What holds of a store after a move: its lists, index and numbers are as they should be, and the state is another.
+-- Assumes nothing.
+use mathlib.Core.Path.{_≡_, refl, sym, ap, ap₂, _∙_}
+use mathlib.Core.List.{List, [], _∷_, _++_, map, head-eq-of-cons-eq, tail-eq-of-cons-eq}
+use Prim.Native.Nat.{ℕ, _+_, _≤_, _<_}
+use native.Mathlib.Omega.{arith}
+use lib.ListN.{length, getD}
+use Rattle.nodes.specs.Nodes.{Field, Head, Value, Prev, Mark, Rest, Cols, cols, Room, Wrote, Reads}
+use Rattle.nodes.specs.declared.Shape.{Shape}
+use Rattle.nodes.proofs.NodesLaws.{room-kept}
+use Rattle.nodes.proofs.OverLaws.{over-at}
+use Rattle.lists.specs.Ring.{Among, Last}
+use Rattle.lists.proofs.ListsLaws.{lists-tail}
+use Rattle.pool.specs.Carries.{Carries, listsOf, Pooled, Aside, Alike, Kind, CanMove, Moved, CanRelease, Released, CanFill, Filled}
+use Rattle.pool.proofs.CarriesLaws.{carries-view}
+use Rattle.pool.proofs.PoolLaws.{mark-pooled, value-pooled, mark-lists, pooled-length, pooled-tail, pooled-node, can-fill}
+use Rattle.rules.specs.Parts.{total}
+use Rattle.rules.specs.State.{Entry, Limits, State, Queue, Small, Main, fresh, withFreq, revalue, queueOf, setQueue, setGhosts, pushTo, putAt, residents, one, places}
+use Rattle.rules.proofs.PartsLaws.{length-total}
+use Rattle.store.specs.declared.QueueKind.{QueueKind}
+use Rattle.store.specs.Holds.{listNo, ghostsNo, entryAt, keyAt, limitsIn, stateIn, shapeFor, Keeps, Becomes}
+use Rattle.store.specs.Seats.{Seat, Seated, Tail, Grave, Buried, Marked, Replaced, Freed, SentBack, Exhumed, Fronted, CanAdmit, CanHaunt}
+use Rattle.store.proofs.MapLaws.{map-length}
+use Rattle.store.proofs.ShownLaws.{limits-aside, queue-shown, ghosts-shown, moved-main, moved-ghost, released-queue, released-ghost, filled-queue, filled-ghost, marked, valued}
+use Rattle.store.proofs.LookLaws.{places-miss}
+
+-- ---- lists of residents and of ghosts
+
+pub kind : (q : Queue) → Kind (listNo q)
+kind Small = record { above = omega arith; below = omega arith }
+kind Main = record { above = omega arith; below = omega arith }
+
+pub ghost-kind : Kind ghostsNo
+ghost-kind = record { above = omega arith; below = omega arith }
+
+-- ---- limits and lengths
+
+queue-length : (z : Shape) (s : List ℕ) (q : Queue) → length (queueOf q (stateIn z s)) ≡ length (listsOf z (cols z s) (listNo q))
+queue-length z s q = ap length (queue-shown z s q) ∙ map-length (entryAt (cols z s)) (listsOf z (cols z s) (listNo q))
+
+ghosts-length : (z : Shape) (s : List ℕ) → length (stateIn z s .ghosts) ≡ length (listsOf z (cols z s) ghostsNo)
+ghosts-length z s = ap length (ghosts-shown z s) ∙ map-length (keyAt (cols z s)) (listsOf z (cols z s) ghostsNo)
+
+module _ {z : Shape} {s : List ℕ} where
+  pub capacity-is : {r : ℕ} → Reads z s Head 0 r → r ≡ stateIn z s .limits .capacity
+  unfolding stateIn
+  capacity-is g = g .value
+
+  pub small-limit-is : {r : ℕ} → Reads z s Head 1 r → r ≡ stateIn z s .limits .smallLimit
+  unfolding stateIn
+  small-limit-is g = g .value
+
+  pub ghost-limit-is : {r : ℕ} → Reads z s Head 2 r → r ≡ stateIn z s .limits .ghostLimit
+  unfolding stateIn
+  ghost-limit-is g = g .value
+
+  pub length-is : Keeps z s → (q : Queue) {t n : ℕ} → t ≡ listNo q → Reads z s Head (4 + t) n → n ≡ length (queueOf q (stateIn z s))
+  length-is k q e g = pooled-length (k .pooled) (kind q) (rw e at g) ∙ sym (queue-length z s q)
+
+  pub ghosts-are : Keeps z s → {n : ℕ} → Reads z s Head (4 + ghostsNo) n → n ≡ length (stateIn z s .ghosts)
+  ghosts-are k g = pooled-length (k .pooled) ghost-kind g ∙ sym (ghosts-length z s)
+
+-- ---- seats
+
+module _ {z : Shape} {s : List ℕ} (k : Keeps z s) where
+  pub tail-is : {q : Queue} {t x : ℕ} → t ≡ listNo q → Reads z s Prev (z .room + t) x → 1 ≤ length (queueOf q (stateIn z s)) → Tail z s q x
+  tail-is {q} {t} {x} e g h =
+      let r = k .pooled .carries .lists in
+      let b = kind q .below in
+      let l : Last (getD (cols z s Prev) (z .room + listNo q) 0) (listsOf z (cols z s) (listNo q)) = lists-tail r b (omega (arith, r .counts (listNo q) b, queue-length z s q)) in
+      let m : Last x (listsOf z (cols z s) (listNo q)) = rw (g .value, e) l in
+      record {
+        before = map (entryAt (cols z s)) (m .front);
+        entry = entryAt (cols z s) x;
+        seat = record { front = m .front; back = []; is = m .is; before = refl; here = refl; after = refl };
+      }
+
+  pub seat-among : {q : Queue} {x : ℕ} {b : List Entry} {e : Entry} {a : List Entry} → Seat z s q x b e a → Among x (listsOf z (cols z s) (listNo q))
+  seat-among h = record { front = h .front; back = h .back; is = h .is }
+
+  pub seat-node : {q : Queue} {x : ℕ} {b : List Entry} {e : Entry} {a : List Entry} → Seat z s q x b e a → x < z .room
+  seat-node {q} h = pooled-node (k .pooled) (kind q) (seat-among h)
+
+  pub seated-node : {q : Queue} {x : ℕ} → Seated z s q x → x < z .room + 4
+  seated-node h = omega (arith, seat-node (h .seat))
+
+  pub seated-release : {q : Queue} {x t : ℕ} → Seated z s q x → t ≡ listNo q → CanRelease z s t x
+  seated-release {q} h e = rw e (record { pooled = k .pooled; from = kind q; among = seat-among (h .seat) })
+
+  pub seated-move : {q : Queue} {x t : ℕ} → Seated z s q x → t ≡ listNo q → CanMove z s t (listNo Main) x
+  seated-move {q} h e = rw e (record { pooled = k .pooled; from = kind q; to = kind Main; among = seat-among (h .seat) })
+
+  grave-among : {x : ℕ} {b : List ℕ} {g : ℕ} {a : List ℕ} → Grave z s x b g a → Among x (listsOf z (cols z s) ghostsNo)
+  grave-among h = record { front = h .front; back = h .back; is = h .is }
+
+  pub buried-release : {x : ℕ} → Buried z s x → CanRelease z s ghostsNo x
+  buried-release h = record { pooled = k .pooled; from = ghost-kind; among = grave-among (h .grave) }
+
+  pub buried-move : {x : ℕ} → Buried z s x → CanMove z s ghostsNo ghostsNo x
+  buried-move h = record { pooled = k .pooled; from = ghost-kind; to = ghost-kind; among = grave-among (h .grave) }
+
+  -- how many nodes are in use
+  in-use : length (listsOf z (cols z s) 1) + length (listsOf z (cols z s) 2) + length (listsOf z (cols z s) 3) ≡ residents (stateIn z s) + length (stateIn z s .ghosts)
+  in-use = omega (arith, queue-length z s Small, queue-length z s Main, ghosts-length z s, length-total (stateIn z s .small), length-total (stateIn z s .main))
+
+  rooms : z .room ≡ stateIn z s .limits .capacity + stateIn z s .limits .ghostLimit
+  unfolding stateIn
+  rooms = ap (λ (x : Shape). x .room) (k .shaped)
+
+  pub admit-fill : (q : Queue) {g t : ℕ} → CanAdmit z s g → t ≡ listNo q → CanFill z s t g
+  admit-fill q {g} h e = rw e (can-fill (k .pooled) (kind q) (places-miss z s (k .pooled) g (h .none)) (omega (arith, in-use, rooms, h .less, h .few)))
+
+  pub haunt-fill : {g : ℕ} → CanHaunt z s g → CanFill z s ghostsNo g
+  haunt-fill {g} h = can-fill (k .pooled) ghost-kind (places-miss z s (k .pooled) g (h .none)) (omega (arith, in-use, rooms, h .within, h .fewer))
+
+-- ---- a move keeps the store in order
+
+module _ {z : Shape} {s s′ : List ℕ} (k : Keeps z s) (n : length s′ ≡ length s) where
+  keeps-aside : Pooled z s′ → Aside (cols z s) (cols z s′) → Keeps z s′
+  keeps-aside p a = record { room = room-kept (k .room) n; pooled = p; shaped = k .shaped ∙ ap shapeFor (sym (limits-aside a)) }
+
+  becomes : {τ : State} → Pooled z s′ → Aside (cols z s) (cols z s′) → stateIn z s′ ≡ τ → Becomes z s s′ τ
+  becomes p a e = record { keeps = keeps-aside p a; state = e; rest = a .rest }
+
+  pub freed : {q : Queue} {t x : ℕ} → t ≡ listNo q → Released z s s′ t x → Freed z s s′ q x
+  freed {q} {t} {x} e m₀ =
+      let m : Released z s s′ (listNo q) x = rw e at m₀ in
+      record {
+        of = λ b y a h.
+            becomes (m .pooled) (m .alike .aside)
+            (released-queue z s s′ (h .front) x (h .back) q (h .is) m ∙ ap₂ (λ l r. setQueue q (l ++ r) (stateIn z s)) (h .before) (h .after));
+      }
+
+  pub exhumed : {x : ℕ} → Released z s s′ ghostsNo x → Exhumed z s s′ x
+  exhumed {x} m =
+      record {
+        of = λ b g a h.
+            becomes (m .pooled) (m .alike .aside)
+            (released-ghost z s s′ (h .front) x (h .back) (h .is) m ∙ ap₂ (λ l r. setGhosts (l ++ r) (stateIn z s)) (h .before) (h .after));
+      }
+
+  pub fronted : {x : ℕ} → Moved z s s′ ghostsNo ghostsNo x → Fronted z s s′ x
+  fronted {x} m =
+      record {
+        of = λ b g a h.
+            becomes (m .pooled) (m .alike .aside)
+            (moved-ghost z s s′ (h .front) x (h .back) (h .is) m
+            ∙ ap (λ y. setGhosts (y ∷ (map (keyAt (cols z s)) (h .front) ++ map (keyAt (cols z s)) (h .back))) (stateIn z s)) (h .here)
+            ∙ ap₂ (λ l r. setGhosts (g ∷ (l ++ r)) (stateIn z s)) (h .before) (h .after));
+      }
+
+  pub admitted : (q : Queue) {t g v x : ℕ} → t ≡ listNo q → Filled z s s′ t g v x → Becomes z s s′ (pushTo q (fresh g v) (stateIn z s))
+  admitted q {t} {g} {v} {x} e m₀ =
+      let m : Filled z s s′ (listNo q) g v x = rw e at m₀ in
+      becomes (m .pooled) (m .aside) (filled-queue z s s′ g v x (k .pooled) q m)
+
+  pub haunted : {g v x : ℕ} → Filled z s s′ ghostsNo g v x → Becomes z s s′ (setGhosts (g ∷ stateIn z s .ghosts) (stateIn z s))
+  haunted {g} {v} {x} m = becomes (m .pooled) (m .aside) (filled-ghost z s s′ g v x (k .pooled) m)
+
+  mark-aside : {x v : ℕ} → Wrote z s s′ Mark x v → Aside (cols z s) (cols z s′)
+  mark-aside w = record { limits = λ i h. rw (w .columns, over-at); rest = rw (w .columns, over-at) }
+
+  pub marks : {x v : ℕ} → Wrote z s s′ Mark x v → Marked z s s′ x v
+  marks {x} {v} w =
+      record {
+        of = λ q b y a h.
+            becomes (mark-pooled (k .pooled) w) (mark-aside w)
+            (marked z s s′ (k .pooled) q (h .front) x (h .back) (h .is) v w
+            ∙ ap (λ (e : Entry). putAt q (map (entryAt (cols z s)) (h .front)) (withFreq v e ∷ []) (map (entryAt (cols z s)) (h .back)) (stateIn z s)) (h .here)
+            ∙ ap₂ (λ l r. putAt q l (withFreq v y ∷ []) r (stateIn z s)) (h .before) (h .after));
+      }
+
+-- ---- one move after the other
+
+pub becomes-then : {z : Shape} {s s₁ s₂ : List ℕ} {τ ρ : State} → Becomes z s s₁ τ → Becomes z s₁ s₂ ρ → Becomes z s s₂ ρ
+becomes-then a b = record { keeps = b .keeps; state = b .state; rest = b .rest ∙ a .rest }
+
+module _ {z : Shape} {s s₁ : List ℕ} (k : Keeps z s) (n : length s₁ ≡ length s) where
+  module _ {q : Queue} {x : ℕ} (m : Moved z s s₁ (listNo q) (listNo Main) x) (b : List Entry) (e : Entry) (a : List Entry) (h : Seat z s q x b e a) where
+    went : Becomes z s s₁ (pushTo Main e (setQueue q (b ++ a) (stateIn z s)))
+    went =
+        becomes k n (m .pooled) (m .alike .aside)
+        (moved-main z s s₁ (h .front) x (h .back) q (h .is) m
+        ∙ ap (λ y. pushTo Main y (setQueue q (map (entryAt (cols z s)) (h .front) ++ map (entryAt (cols z s)) (h .back)) (stateIn z s))) (h .here)
+        ∙ ap₂ (λ l r. pushTo Main e (setQueue q (l ++ r) (stateIn z s))) (h .before) (h .after))
+
+    heads : (l : List ℕ) × (listsOf z (cols z s₁) (listNo Main) ≡ x ∷ l)
+    heads = (_, carries-view (m .of (h .front) (h .back) (h .is)) 2 (omega arith))
+
+    shows : entryAt (cols z s₁) x ∷ map (entryAt (cols z s₁)) (heads .0) ≡ e ∷ queueOf Main (setQueue q (b ++ a) (stateIn z s))
+    shows = sym (queue-shown z s₁ Main ∙ ap (map (entryAt (cols z s₁))) (heads .1)) ∙ ap (queueOf Main) (went .state)
+
+    main-seat : Seat z s₁ Main x [] e (queueOf Main (setQueue q (b ++ a) (stateIn z s)))
+    main-seat = record { front = []; back = heads .0; is = heads .1; before = refl; here = head-eq-of-cons-eq shows; after = tail-eq-of-cons-eq shows }
+
+  pub sent-back : {s₂ : List ℕ} → length s₂ ≡ length s₁ → {q : Queue} {t x v : ℕ} → t ≡ listNo q → Moved z s s₁ t (listNo Main) x → Wrote z s₁ s₂ Mark x v → SentBack z s s₂ q x v
+  sent-back {s₂} n₁ {q} {t} {x} {v} e m₀ w =
+      let m : Moved z s s₁ (listNo q) (listNo Main) x = rw e at m₀ in
+      record {
+        of = λ b y a h.
+            let f : Becomes z s s₁ (pushTo Main y (setQueue q (b ++ a) (stateIn z s))) = went m b y a h in
+            let g = marks (f .keeps) n₁ w .of Main [] y (queueOf Main (setQueue q (b ++ a) (stateIn z s))) (main-seat m b y a h) in
+            becomes-then f
+            (record {
+              keeps = g .keeps;
+              state = g .state ∙ ap (setQueue Main (withFreq v y ∷ queueOf Main (setQueue q (b ++ a) (stateIn z s)))) (f .state);
+              rest = g .rest;
+            });
+      }

@@ -1,0 +1,4 @@
+pub mod MapLaws
+pub mod ShownLaws
+pub mod LookLaws
+pub mod KeepsLaws

@@ -1,0 +1,167 @@
+-- What a node found by its key says of the state: which entry it carries, and that no other place has the key.
+-- Assumes nothing.
+use mathlib.Core.Path.{_≡_, refl, sym, ap, ap₂, _∙_, subst}
+use mathlib.Core.Logic.{_≢_}
+use mathlib.Core.Bool.{Bool, true, false}
+use mathlib.Core.List.{List, [], _∷_, _++_, map}
+use Prim.Native.Nat.{ℕ, zero, suc, _+_, _≤_, _<_}
+use native.Mathlib.Omega.{arith}
+use lib.Dec.{eqb}
+use lib.ListN.{length, getD}
+use borrow.Author.Tests.{eq-eqb, ne-eqb, eqb-true}
+use Rattle.nodes.specs.Nodes.{Key, Queue as Tag, Cols, cols, Reads}
+use Rattle.nodes.specs.declared.Shape.{Shape}
+use Rattle.lists.specs.Ring.{Among}
+use Rattle.key_index.specs.Stored.{LiveIn, Hit, Miss, IsFound}
+use Rattle.key_index.specs.declared.Found.{Found}
+use Rattle.key_index.specs.declared.Found.the-variants.{At, Nothing}
+use Rattle.pool.specs.Carries.{listsOf, Pooled, Kind}
+use Rattle.pool.proofs.CarriesLaws.{lives-tagged, lives-kind, lives-among, among-miss, among-lives}
+use Rattle.rules.specs.Parts.{bit, total, found, missing, splitBy}
+use Rattle.rules.specs.State.{Entry, State, Queue, Small, Main, keyIs, queueOf, keyed, places, place, nowhere, here, Sound}
+use Rattle.rules.proofs.PartsLaws.{total-append, total-mid}
+use Rattle.rules.proofs.EngineLaws.{place-is, place-none, split-is, split-none}
+use Rattle.store.specs.declared.Spot.{Spot}
+use Rattle.store.specs.declared.Spot.the-variants.{Resident, Ghost, Absent}
+use Rattle.store.specs.Holds.{listNo, ghostsNo, entryAt, keyAt, stateIn, Keeps, Held}
+use Rattle.store.specs.Looks.{Sits, Haunts, Lacks, Looks}
+use Rattle.store.proofs.MapLaws.{map-append}
+use Rattle.store.proofs.ShownLaws.{queue-shown, ghosts-shown}
+
+-- ---- counts over a mapped list
+
+-- the key k stands nowhere in a list none of whose nodes has it
+count-none : {A : Type 0} (g : ℕ → A) (p : A → Bool) (l : List ℕ) → ((x : ℕ) → Among x l → p (g x) ≡ false) → total (λ e. bit (p e)) (map g l) ≡ 0
+count-none g p [] h = refl
+count-none g p (x ∷ l) h =
+    omega (
+      arith,
+      ap bit (h x (record { front = []; back = l; is = refl })),
+      count-none g p l (λ y m. h y (record { front = x ∷ m .front; back = m .back; is = ap (λ t. x ∷ t) (m .is) })),
+    )
+
+-- and somewhere in one that has a node with it
+count-some : {A : Type 0} (g : ℕ → A) (p : A → Bool) {x : ℕ} {l : List ℕ} → Among x l → p (g x) ≡ true → 1 ≤ total (λ e. bit (p e)) (map g l)
+count-some g p {x} {l} m h =
+    omega (arith, total-mid (λ e. bit (p e)) (map g (m .front)) (g x) (map g (m .back)) (ap (map g) (m .is) ∙ map-append g (m .front) (x ∷ m .back)), ap bit h)
+
+-- ---- a key and the lists
+
+module _ (z : Shape) (s : List ℕ) (p : Pooled z s) where
+  abbrev c : Cols
+  c = cols z s
+
+  abbrev f : ℕ → List ℕ
+  f = listsOf z (cols z s)
+
+  not-here : (k t : ℕ) → Kind t → Miss z c k → (x : ℕ) → Among x (f t) → eqb k (getD (c Key) x 0) ≡ false
+  not-here k t kind m x a = ne-eqb k (getD (c Key) x 0) (λ e. among-miss (p .carries) kind a m (sym e))
+
+  -- a key that is not found stands nowhere
+  pub miss-places : (k : ℕ) → Miss z c k → places k (stateIn z s) ≡ 0
+  unfolding stateIn
+  miss-places k m =
+      let kind : (t : ℕ) → 1 ≤ t → t < 4 → Kind t = λ t a b. record { above = a; below = b } in
+      omega (
+        arith,
+        count-none (entryAt c) (keyIs k) (f 1) (not-here k 1 (kind 1 (omega arith) (omega arith)) m),
+        count-none (entryAt c) (keyIs k) (f 2) (not-here k 2 (kind 2 (omega arith) (omega arith)) m),
+        count-none (keyAt c) (eqb k) (f 3) (not-here k 3 (kind 3 (omega arith) (omega arith)) m),
+      )
+
+  counted : (k t x : ℕ) → Kind t → Among x (f t) → getD (c Key) x 0 ≡ k → 1 ≤ places k (stateIn z s)
+  unfolding stateIn
+  counted k zero x kind a e = absurd (omega (arith, kind .above))
+  counted k (suc zero) x kind a e = omega (arith, count-some (entryAt c) (keyIs k) a (eq-eqb k (getD (c Key) x 0) (sym e)))
+  counted k (suc (suc zero)) x kind a e = omega (arith, count-some (entryAt c) (keyIs k) a (eq-eqb k (getD (c Key) x 0) (sym e)))
+  counted k (suc (suc (suc zero))) x kind a e = omega (arith, count-some (keyAt c) (eqb k) a (eq-eqb k (getD (c Key) x 0) (sym e)))
+  counted k (suc (suc (suc (suc t)))) x kind a e = absurd (omega (arith, kind .below))
+
+  -- a key that stands nowhere is not found
+  pub places-miss : (k : ℕ) → places k (stateIn z s) ≡ 0 → Miss z c k
+  places-miss k h =
+      record {
+        none = λ y l e. let n = counted k (getD (c Tag) y 0) y (lives-kind (p .carries) l refl) (lives-among (p .carries) l refl) e in omega arith;
+      }
+
+-- ---- the three answers
+
+module _ {z : Shape} {s : List ℕ} (h : Held z s) where
+  pool : Pooled z s
+  pool = h .keeps .pooled
+
+  sits-in : (k x : ℕ) (q : Queue) → getD (cols z s Key) x 0 ≡ k → getD (cols z s Tag) x 0 ≡ listNo q → Among x (listsOf z (cols z s) (listNo q)) → Sits z s k x
+  sits-in k x q e t a =
+      record {
+        queue = q;
+        front = a .front;
+        back = a .back;
+        is = a .is;
+        tag = t;
+        place-is = place-is k (stateIn z s) q _ (entryAt (cols z s) x) _ (h .sound .once k)
+            (queue-shown z s q ∙ ap (map (entryAt (cols z s))) (a .is) ∙ map-append (entryAt (cols z s)) (a .front) (x ∷ a .back)) (eq-eqb k (getD (cols z s Key) x 0) (sym e));
+      }
+
+  sits-by : (k x t : ℕ) → getD (cols z s Key) x 0 ≡ k → getD (cols z s Tag) x 0 ≡ t → Kind t → t ≢ ghostsNo → Among x (listsOf z (cols z s) t) → Sits z s k x
+  sits-by k x zero e g kind n a = absurd (omega (arith, kind .above))
+  sits-by k x (suc zero) e g kind n a = sits-in k x Small e g a
+  sits-by k x (suc (suc zero)) e g kind n a = sits-in k x Main e g a
+  sits-by k x (suc (suc (suc t))) e g kind n a = absurd (omega (arith, kind .below))
+
+  ghost-at : (k x : ℕ) → getD (cols z s Key) x 0 ≡ k → Among x (listsOf z (cols z s) ghostsNo) → Haunts z s k x
+  ghost-at k x e a =
+      let g = ghosts-shown z s ∙ ap (map (keyAt (cols z s))) (a .is) ∙ map-append (keyAt (cols z s)) (a .front) (x ∷ a .back) in
+      let t = eq-eqb k (getD (cols z s Key) x 0) (sym e) in
+      let m = total-mid (λ y. bit (eqb k y)) (map (keyAt (cols z s)) (a .front)) (keyAt (cols z s) x) (map (keyAt (cols z s)) (a .back)) g in
+      record {
+        front = a .front;
+        back = a .back;
+        is = a .is;
+        key = e;
+        place-is = place-none k (stateIn z s) (omega (arith, h .sound .once k, ap bit t));
+        split-is =
+            ap (splitBy (eqb k)) g
+            ∙ split-is (eqb k) (map (keyAt (cols z s)) (a .front)) (keyAt (cols z s) x) (map (keyAt (cols z s)) (a .back)) (omega (arith, h .sound .once k, ap bit t)) t
+            ∙ ap (λ y. found (map (keyAt (cols z s)) (a .front)) y (map (keyAt (cols z s)) (a .back))) e;
+      }
+
+  module _ {k : ℕ} {r : Found} (f : IsFound z (cols z s) k r) where
+    pub look-node : {x : ℕ} → r ≡ At x → x < z .room + 4
+    look-node {x} e = omega (arith, f .hit x e .lives .below)
+
+    module _ {x : ℕ} (e : r ≡ At x) {t : ℕ} (g : Reads z s Tag x t) where
+      hit : Hit z (cols z s) k x
+      hit = f .hit x e
+
+      among : Among x (listsOf z (cols z s) t)
+      among = lives-among (pool .carries) (hit .lives) (g .value)
+
+      pub look-resident : (t ≡ ghostsNo → ⊥) → Looks z s k (Resident x)
+      look-resident n =
+          record {
+            resident = λ y q. subst (Sits z s k) (same-node q) (sits-by k x t (hit .holds) (sym (g .value)) (lives-kind (pool .carries) (hit .lives) (g .value)) n among);
+            haunt = λ y q. let b : _≡_ {A = ℕ} 0 1 = cc in absurd (omega arith);
+            absent = λ q. let b : _≡_ {A = ℕ} 0 1 = cc in absurd (omega arith);
+          }
+        where
+          same-node : {y : ℕ} → Resident x ≡ Resident y → x ≡ y
+          same-node q = cc
+
+      pub look-ghost : t ≡ ghostsNo → Looks z s k (Ghost x)
+      look-ghost n =
+          record {
+            resident = λ y q. let b : _≡_ {A = ℕ} 0 1 = cc in absurd (omega arith);
+            haunt = λ y q. subst (Haunts z s k) (same-node q) (ghost-at k x (hit .holds) (subst (λ i. Among x (listsOf z (cols z s) i)) n among));
+            absent = λ q. let b : _≡_ {A = ℕ} 0 1 = cc in absurd (omega arith);
+          }
+        where
+          same-node : {y : ℕ} → Ghost x ≡ Ghost y → x ≡ y
+          same-node q = cc
+
+    pub look-absent : r ≡ Nothing → Looks z s k Absent
+    look-absent e =
+        record {
+          resident = λ y q. let b : _≡_ {A = ℕ} 0 1 = cc in absurd (omega arith);
+          haunt = λ y q. let b : _≡_ {A = ℕ} 0 1 = cc in absurd (omega arith);
+          absent = λ q. record { none = miss-places z s pool k (f .miss e) };
+        }

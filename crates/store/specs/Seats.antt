@@ -54,6 +54,12 @@ pub record Buried (z : Shape) (s : List ℕ) (x : ℕ) : Type 0 where
   pub after : List ℕ
   pub grave : Grave z s x before key after
 
+-- the oldest one
+pub record Oldest (z : Shape) (s : List ℕ) (x : ℕ) : Type 0 where
+  pub before : List ℕ
+  pub key : ℕ
+  pub grave : Grave z s x before key []
+
 -- ---- what the moves are in the state
 
 -- the entry at x got the frequency n; it stays where it is

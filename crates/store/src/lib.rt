@@ -7,7 +7,7 @@ ghost use Rattle.nodes.specs.Nodes.{Room};
 ghost use Rattle.rules.specs.State.{Queue, queueOf, fresh, pushTo, setGhosts};
 ghost use mathlib.Core.List.{_∷_};
 ghost use Rattle.store.specs.Holds.{listNo, ghostsNo, stateIn, Keeps, Held, Becomes};
-ghost use Rattle.store.specs.Seats.{kindOf, Seated, Tail, Buried, Marked, Replaced, Freed, SentBack, Exhumed, Fronted, CanAdmit, CanHaunt};
+ghost use Rattle.store.specs.Seats.{kindOf, Seated, Tail, Buried, Oldest, Marked, Replaced, Freed, SentBack, Exhumed, Fronted, CanAdmit, CanHaunt};
 ghost use Rattle.store.specs.Looks.{Looks};
 use key_index::Found;
 use nodes::Shape;
@@ -85,6 +85,14 @@ pub fn tail_of(s: &[u8], z: Shape, q: QueueKind) -> usize
     ensures { λ r. ⌜ Tail z (now (s .entry)) (kindOf q) r ⌝ }
 {
     lists::tail_of(s, z, list_of(q))
+}
+
+// The oldest ghost, where there is one.
+pub fn oldest_of(s: &[u8], z: Shape) -> usize
+    requires { ⌜ Keeps z (now s) × (1 ≤ length (stateIn z (now s) .ghosts)) ⌝ }
+    ensures { λ r. ⌜ Oldest z (now (s .entry)) r ⌝ }
+{
+    lists::tail_of(s, z, lists::GHOSTS)
 }
 
 // One walk along the key's chain tells all three apart, since residents and ghosts share the index.

@@ -19,9 +19,9 @@ use Rattle.rules.specs.State.{Entry, Limits, State, Queue, Small, Main, fresh, 
 use Rattle.rules.proofs.PartsLaws.{length-total}
 use Rattle.store.specs.declared.QueueKind.{QueueKind}
 use Rattle.store.specs.Holds.{listNo, ghostsNo, entryAt, keyAt, limitsIn, stateIn, shapeFor, Keeps, Becomes}
-use Rattle.store.specs.Seats.{Seat, Seated, Tail, Grave, Buried, Oldest, Marked, Replaced, Freed, SentBack, Exhumed, Fronted, CanAdmit, CanHaunt}
+use Rattle.store.specs.Seats.{Seat, Seated, Tail, Grave, Buried, Oldest, Marked, Replaced, Freed, SentBack, Laid, Exhumed, Fronted, CanAdmit, CanHaunt}
 use Rattle.store.proofs.MapLaws.{map-append, map-length}
-use Rattle.store.proofs.ShownLaws.{limits-aside, queue-shown, ghosts-shown, moved-main, moved-ghost, released-queue, released-ghost, filled-queue, filled-ghost, marked, valued}
+use Rattle.store.proofs.ShownLaws.{limits-aside, queue-shown, ghosts-shown, moved-main, moved-down, moved-ghost, released-queue, released-ghost, filled-queue, filled-ghost, marked, valued}
 use Rattle.store.proofs.LookLaws.{places-miss}
 
 -- ---- lists of residents and of ghosts
@@ -102,6 +102,9 @@ module _ {z : Shape} {s : List ℕ} (k : Keeps z s) where
   pub seated-move : {q : Queue} {x t : ℕ} → Seated z s q x → t ≡ listNo q → CanMove z s t (listNo Main) x
   seated-move {q} h e = rw e (record { pooled = k .pooled; from = kind q; to = kind Main; among = seat-among (h .seat) })
 
+  pub seated-down : {q : Queue} {x t : ℕ} → Seated z s q x → t ≡ listNo q → CanMove z s t ghostsNo x
+  seated-down {q} h e = rw e (record { pooled = k .pooled; from = kind q; to = ghost-kind; among = seat-among (h .seat) })
+
   grave-among : {x : ℕ} {b : List ℕ} {g : ℕ} {a : List ℕ} → Grave z s x b g a → Among x (listsOf z (cols z s) ghostsNo)
   grave-among h = record { front = h .front; back = h .back; is = h .is }
 
@@ -169,6 +172,17 @@ module _ {z : Shape} {s s′ : List ℕ} (k : Keeps z s) (n : length s′ ≡ le
         of = λ b y a h.
             becomes (m .pooled) (m .alike .aside)
             (released-queue z s s′ (h .front) x (h .back) q (h .is) m ∙ ap₂ (λ l r. setQueue q (l ++ r) (stateIn z s)) (h .before) (h .after));
+      }
+
+  pub laid : {q : Queue} {t x : ℕ} → t ≡ listNo q → Moved z s s′ t ghostsNo x → Laid z s s′ q x
+  laid {q} {t} {x} e m₀ =
+      let m : Moved z s s′ (listNo q) ghostsNo x = rw e at m₀ in
+      record {
+        of = λ b y a h.
+            becomes (m .pooled) (m .alike .aside)
+            (moved-down z s s′ (h .front) x (h .back) q (h .is) m
+            ∙ ap (λ (n : ℕ). setGhosts (n ∷ stateIn z s .ghosts) (setQueue q (map (entryAt (cols z s)) (h .front) ++ map (entryAt (cols z s)) (h .back)) (stateIn z s))) (ap (λ (w : Entry). w .key) (h .here))
+            ∙ ap₂ (λ l r. setGhosts (y .key ∷ stateIn z s .ghosts) (setQueue q (l ++ r) (stateIn z s))) (h .before) (h .after));
       }
 
   pub exhumed : {x : ℕ} → Released z s s′ ghostsNo x → Exhumed z s s′ x

@@ -78,6 +78,10 @@ pub record Freed (z : Shape) (s s′ : List ℕ) (q : Queue) (x : ℕ) : Type 0 
 pub record SentBack (z : Shape) (s s′ : List ℕ) (q : Queue) (x n : ℕ) : Type 0 where
   pub of : (b : List Entry) (e : Entry) (a : List Entry) → Seat z s q x b e a → Becomes z s s′ (pushTo Main (withFreq n e) (setQueue q (b ++ a) (stateIn z s)))
 
+-- the entry at x left its queue, and its node is the newest ghost
+pub record Laid (z : Shape) (s s′ : List ℕ) (q : Queue) (x : ℕ) : Type 0 where
+  pub of : (b : List Entry) (e : Entry) (a : List Entry) → Seat z s q x b e a → Becomes z s s′ (setGhosts (e .key ∷ stateIn z s .ghosts) (setQueue q (b ++ a) (stateIn z s)))
+
 -- the ghost at x was taken off
 pub record Exhumed (z : Shape) (s s′ : List ℕ) (x : ℕ) : Type 0 where
   pub of : (b : List ℕ) (k : ℕ) (a : List ℕ) → Grave z s x b k a → Becomes z s s′ (setGhosts (b ++ a) (stateIn z s))

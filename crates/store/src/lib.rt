@@ -7,7 +7,7 @@ ghost use Rattle.nodes.specs.Nodes.{Room};
 ghost use Rattle.rules.specs.State.{Queue, queueOf, fresh, pushTo, setGhosts};
 ghost use mathlib.Core.List.{_∷_};
 ghost use Rattle.store.specs.Holds.{listNo, ghostsNo, stateIn, Keeps, Held, Becomes};
-ghost use Rattle.store.specs.Seats.{kindOf, Seated, Tail, Buried, Oldest, Marked, Replaced, Freed, SentBack, Exhumed, Fronted, CanAdmit, CanHaunt};
+ghost use Rattle.store.specs.Seats.{kindOf, Seated, Tail, Buried, Oldest, Marked, Replaced, Freed, SentBack, Laid, Exhumed, Fronted, CanAdmit, CanHaunt};
 ghost use Rattle.store.specs.Looks.{Looks};
 use key_index::Found;
 use nodes::Shape;
@@ -135,6 +135,14 @@ pub fn send_back(s: &mut [u8], z: Shape, q: QueueKind, x: usize, n: usize)
 {
     pool::move_to(s, z, list_of(q), lists::MAIN, x);
     nodes::set_mark(s, z, x, n);
+}
+
+// The entry of a queue at a node leaves, and the node becomes the newest ghost: its key is in the index already.
+pub fn lay_down(s: &mut [u8], z: Shape, q: QueueKind, x: usize)
+    requires { ⌜ Keeps z (now s) × Seated z (now s) (kindOf q) x ⌝ }
+    ensures { λ _. ⌜ Laid z (now (s .entry)) (now (s .exit)) (kindOf q) x ⌝ }
+{
+    pool::move_to(s, z, list_of(q), lists::GHOSTS, x);
 }
 
 // A new pair goes to the head of a queue with frequency 0.

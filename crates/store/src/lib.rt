@@ -20,7 +20,7 @@ pub enum QueueKind {
 
 // Where a key stands: resident at a node, a ghost at a node, or neither.
 pub enum Spot {
-    Resident(usize),
+    Resident(QueueKind, usize),
     Ghost(usize),
     Absent,
 }
@@ -103,10 +103,14 @@ pub fn look(s: &[u8], z: Shape, k: u64) -> Spot
     let found = key_index::find(s, z, k);
     match found {
         Found::At(x) => {
-            if nodes::queue_of(s, z, x) == lists::GHOSTS {
+            let t = nodes::queue_of(s, z, x);
+            if t == lists::GHOSTS {
                 return Spot::Ghost(x);
             }
-            Spot::Resident(x)
+            if t == lists::SMALL {
+                return Spot::Resident(QueueKind::Small, x);
+            }
+            Spot::Resident(QueueKind::Main, x)
         }
         Found::Nothing => Spot::Absent,
     }

@@ -1,13 +1,15 @@
 -- What each function of the ghost list does to the state, and what it gives back, in the terms of the rules.
 -- Assumes nothing.
 use mathlib.Core.Path.{_≡_}
-use mathlib.Core.Bool.{Bool}
+use mathlib.Core.Bool.{Bool, cond}
 use mathlib.Core.List.{List, []}
 use mathlib.Core.Option.{Option, none, some}
 use Prim.Native.Nat.{ℕ}
+use lib.Dec.{ltb}
+use lib.ListN.{length}
 use Rattle.nodes.specs.declared.Shape.{Shape}
 use Rattle.rules.specs.State.{Entry, State, Queue, Small, setQueue, setGhosts}
-use Rattle.rules.specs.Ghosts.{Given, evictLru, recordGhost, Removed, removeGhost, clearGhosts}
+use Rattle.rules.specs.Ghosts.{Given, keeps, evictLru, recordGhost, Removed, removeGhost, clearGhosts}
 use Rattle.rules.specs.Eviction.{ghosted}
 use Rattle.store.specs.Holds.{stateIn, Becomes}
 use Rattle.store.specs.Seats.{Seat}
@@ -31,6 +33,14 @@ pub record Recorded (z : Shape) (s s′ : List ℕ) (k : ℕ) (r : Given·) : Ty
 -- `evict_lru`
 pub record Lost (z : Shape) (s s′ : List ℕ) (r : Given·) : Type 0 where
   pub gave : Gave z s s′ (evictLru (stateIn z s .ghosts)) r
+
+-- the oldest is dropped where there is no room for one more
+pub record Made (z : Shape) (s s′ : List ℕ) (r : Given·) : Type 0 where
+  pub gave : Gave z s s′ (cond (ltb (length (stateIn z s .ghosts)) (stateIn z s .limits .ghostLimit)) (keeps (stateIn z s .ghosts)) (evictLru (stateIn z s .ghosts))) r
+
+-- and where there is one too many
+pub record Trimmed (z : Shape) (s s′ : List ℕ) : Type 0 where
+  pub becomes : Becomes z s s′ (setGhosts (cond (ltb (stateIn z s .limits .ghostLimit) (length (stateIn z s .ghosts))) (evictLru (stateIn z s .ghosts) .ghosts) (stateIn z s .ghosts)) (stateIn z s))
 
 -- `remove`
 pub record Took (z : Shape) (s s′ : List ℕ) (k : ℕ) (r : Bool) : Type 0 where

@@ -180,3 +180,12 @@ pub fn haunt(s: &mut [u8], z: Shape, k: u64)
 {
     pool::fill(s, z, lists::GHOSTS, k, 0);
 }
+
+// The entry at a node gets another value and another frequency.
+pub fn replace(s: &mut [u8], z: Shape, x: usize, v: u64, n: usize)
+    requires { ⌜ Keeps z (now s) × (x < z .room) × (n < 256) ⌝ }
+    ensures { λ _. ⌜ Replaced z (now (s .entry)) (now (s .exit)) x v n ⌝ }
+{
+    nodes::set_value(s, z, x, v);
+    nodes::set_mark(s, z, x, n);
+}

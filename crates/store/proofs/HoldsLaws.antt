@@ -5,11 +5,12 @@ use mathlib.Core.List.{List}
 use Prim.Native.Nat.{ℕ, _≤_}
 use native.Mathlib.Omega.{arith}
 use lib.ListN.{length, getD}
-use Rattle.nodes.specs.Nodes.{Head, cols, Room}
+use Rattle.nodes.specs.Nodes.{Head, cols, Room, Reads}
 use Rattle.nodes.specs.declared.Shape.{Shape}
 use Rattle.rules.specs.State.{Limits, State, Fine}
 use Rattle.rules.specs.Verdict.{storeBytes}
 use Rattle.store.specs.Holds.{limitsIn, stateIn, shapeFor, Held, Holds}
+use Rattle.store.specs.Created.{Stated}
 
 -- ---- the header
 
@@ -21,6 +22,11 @@ same-header z w s = refl
 pub same-limits : (z w : Shape) (s : List ℕ) → limitsIn (cols z s) ≡ limitsIn (cols w s)
 same-limits z w s =
     ap (λ (h : List ℕ). record { capacity = getD h 0 0; smallLimit = getD h 1 0; ghostLimit = getD h 2 0 }) (same-header z w s)
+
+-- what was read of it at one shape stands there at all
+pub stated : {z : Shape} {s : List ℕ} {L : Limits} → Reads z s Head 0 (L .capacity) → Reads z s Head 1 (L .smallLimit) → Reads z s Head 2 (L .ghostLimit) → Stated s L
+stated {z} {s} a b c =
+    record { limits = λ w. (λ i. record { capacity = a .value i; smallLimit = b .value i; ghostLimit = c .value i }) ∙ same-limits z w s }
 
 -- the state's limits are the header's
 pub limits-shown : (z : Shape) (s : List ℕ) → stateIn z s .limits ≡ limitsIn (cols z s)

@@ -11,7 +11,7 @@ ghost use mathlib.Core.List.{_∷_};
 ghost use Rattle.store.specs.Holds.{listNo, ghostsNo, stateIn, shapeFor, Keeps, Held, Becomes};
 ghost use Rattle.store.specs.Seats.{kindOf, Seated, Tail, Buried, Marked, Replaced, Freed, SentBack, Exhumed, Fronted, CanAdmit, CanHaunt};
 ghost use Rattle.store.specs.Looks.{Looks};
-ghost use Rattle.store.specs.Created.{Limited, Created};
+ghost use Rattle.store.specs.Created.{Limited, Created, Stated};
 use key_index::Found;
 use nodes::Shape;
 use sizing::Limits;
@@ -195,4 +195,20 @@ pub fn set_up(s: &mut [u8], limits: Limits)
     let z = shape_of(limits);
     set_limits(s, z, limits);
     pool::set_up(s, z);
+}
+
+// The limits in the header of any bytes. It stands at the same place whatever they are, so the least shape serves to read it.
+pub fn limits_of(s: &[u8]) -> Limits
+    requires { ⌜ storeBytes ≤ length (now s) ⌝ }
+    ensures { λ r. ⌜ Stated (now (s .entry)) (limitsOf r) ⌝ }
+{
+    let least = Shape {
+        room: 1,
+        buckets: 1,
+    };
+    Limits {
+        capacity: nodes::head_of(s, least, CAPACITY),
+        small_limit: nodes::head_of(s, least, SMALL_LIMIT),
+        ghost_limit: nodes::head_of(s, least, GHOST_LIMIT),
+    }
 }

@@ -55,6 +55,10 @@ held-holds {z} {s} h =
 pub holds-held : {z : Shape} {s : List ℕ} {σ : State} → z ≡ shapeFor (limitsIn (cols z s)) → Holds s σ → Held z s
 holds-held {z} {s} e h = subst (λ (w : Shape). Held w s) (ap shapeFor (holds-limits h z) ∙ sym e) (h .held)
 
+-- so there is one shape at most
+pub held-shape : {z w : Shape} {s : List ℕ} → Held z s → Held w s → z ≡ w
+held-shape {z} {w} {s} h k = h .keeps .shaped ∙ ap shapeFor (same-limits z w s) ∙ sym (k .keeps .shaped)
+
 -- ---- the size of a store
 
 -- the one fixed size has room for all limits that are fine

@@ -4,13 +4,14 @@ use mathlib.Core.Path.{_≡_, refl, sym, ap, _∙_, subst}
 use mathlib.Core.List.{List}
 use Prim.Native.Nat.{ℕ, _≤_}
 use native.Mathlib.Omega.{arith}
-use lib.ListN.{length, getD}
+use lib.ListN.{length}
 use Rattle.nodes.specs.Nodes.{Head, cols, Room, Reads}
 use Rattle.nodes.specs.declared.Shape.{Shape}
 use Rattle.rules.specs.State.{Limits, State, Fine}
 use Rattle.rules.specs.Verdict.{storeBytes}
 use Rattle.store.specs.Holds.{limitsIn, stateIn, shapeFor, Held, Holds}
 use Rattle.store.specs.Created.{Stated}
+use Rattle.store.proofs.ShownLaws.{limitsBy}
 
 -- ---- the header
 
@@ -20,10 +21,9 @@ unfolding cols
 same-header z w s = refl
 
 pub same-limits : (z w : Shape) (s : List ℕ) → limitsIn (cols z s) ≡ limitsIn (cols w s)
-same-limits z w s =
-    ap (λ (h : List ℕ). record { capacity = getD h 0 0; smallLimit = getD h 1 0; ghostLimit = getD h 2 0 }) (same-header z w s)
+same-limits z w s = ap limitsBy (same-header z w s)
 
--- what was read of it at one shape stands there at all
+-- what was read of it at one shape stands there at every shape
 pub stated : {z : Shape} {s : List ℕ} {L : Limits} → Reads z s Head 0 (L .capacity) → Reads z s Head 1 (L .smallLimit) → Reads z s Head 2 (L .ghostLimit) → Stated s L
 stated {z} {s} a b c =
     record { limits = λ w. (λ i. record { capacity = a .value i; smallLimit = b .value i; ghostLimit = c .value i }) ∙ same-limits z w s }
@@ -72,5 +72,6 @@ shape-room f h =
       fits = omega (arith, f .capacity-fits, f .ghost-fits);
     }
 
+-- the same for a shape that was worked out
 pub room-for : {L : Limits} {z : Shape} {s : List ℕ} → Fine L → storeBytes ≤ length s → z ≡ shapeFor L → Room z s
 room-for {s = s} f h e = subst (λ (w : Shape). Room w s) (sym e) (shape-room f h)

@@ -5,7 +5,7 @@ use mathlib.Core.List.{List, [], _∷_, _++_, map, head-eq-of-cons-eq, tail-eq-o
 use Prim.Native.Nat.{ℕ, _+_, _≤_, _<_}
 use native.Mathlib.Omega.{arith}
 use lib.ListN.{length, getD}
-use Rattle.nodes.specs.Nodes.{Field, Head, Value, Prev, Mark, Rest, Cols, cols, Room, Wrote, Reads}
+use Rattle.nodes.specs.Nodes.{Field, Head, Key, Value, Prev, Mark, Rest, Cols, cols, Room, Wrote, Reads}
 use Rattle.nodes.specs.declared.Shape.{Shape}
 use Rattle.nodes.proofs.NodesLaws.{room-kept}
 use Rattle.nodes.proofs.OverLaws.{over-at}
@@ -19,9 +19,9 @@ use Rattle.rules.specs.State.{Entry, Limits, State, Queue, Small, Main, fresh, 
 use Rattle.rules.proofs.PartsLaws.{length-total}
 use Rattle.store.specs.declared.QueueKind.{QueueKind}
 use Rattle.store.specs.Holds.{listNo, ghostsNo, entryAt, keyAt, limitsIn, stateIn, shapeFor, Keeps, Becomes}
-use Rattle.store.specs.Seats.{Seat, Seated, Tail, Grave, Buried, Marked, Replaced, Freed, SentBack, Exhumed, Fronted, CanAdmit, CanHaunt}
-use Rattle.store.proofs.MapLaws.{map-length}
-use Rattle.store.proofs.ShownLaws.{limits-aside, queue-shown, ghosts-shown, moved-main, moved-ghost, released-queue, released-ghost, filled-queue, filled-ghost, marked, valued}
+use Rattle.store.specs.Seats.{Seat, Seated, Tail, Grave, Buried, Oldest, Marked, Replaced, Freed, SentBack, Laid, Exhumed, Fronted, CanAdmit, CanHaunt}
+use Rattle.store.proofs.MapLaws.{map-append, map-length}
+use Rattle.store.proofs.ShownLaws.{limits-aside, queue-shown, ghosts-shown, moved-main, moved-down, moved-ghost, released-queue, released-ghost, filled-queue, filled-ghost, marked, valued}
 use Rattle.store.proofs.LookLaws.{places-miss}
 
 -- ---- lists of residents and of ghosts
@@ -75,6 +75,18 @@ module _ {z : Shape} {s : List ℕ} (k : Keeps z s) where
         seat = record { front = m .front; back = []; is = m .is; before = refl; here = refl; after = refl };
       }
 
+  pub oldest-is : {x : ℕ} → Reads z s Prev (z .room + ghostsNo) x → 1 ≤ length (stateIn z s .ghosts) → Oldest z s x
+  oldest-is {x} g h =
+      let r = k .pooled .carries .lists in
+      let b = ghost-kind .below in
+      let l : Last (getD (cols z s Prev) (z .room + ghostsNo) 0) (listsOf z (cols z s) ghostsNo) = lists-tail r b (omega (arith, r .counts ghostsNo b, ghosts-length z s)) in
+      let m : Last x (listsOf z (cols z s) ghostsNo) = rw (g .value) l in
+      record {
+        before = map (keyAt (cols z s)) (m .front);
+        key = keyAt (cols z s) x;
+        grave = record { front = m .front; back = []; is = m .is; before = refl; here = refl; after = refl };
+      }
+
   pub seat-among : {q : Queue} {x : ℕ} {b : List Entry} {e : Entry} {a : List Entry} → Seat z s q x b e a → Among x (listsOf z (cols z s) (listNo q))
   seat-among h = record { front = h .front; back = h .back; is = h .is }
 
@@ -90,8 +102,14 @@ module _ {z : Shape} {s : List ℕ} (k : Keeps z s) where
   pub seated-move : {q : Queue} {x t : ℕ} → Seated z s q x → t ≡ listNo q → CanMove z s t (listNo Main) x
   seated-move {q} h e = rw e (record { pooled = k .pooled; from = kind q; to = kind Main; among = seat-among (h .seat) })
 
+  pub seated-down : {q : Queue} {x t : ℕ} → Seated z s q x → t ≡ listNo q → CanMove z s t ghostsNo x
+  seated-down {q} h e = rw e (record { pooled = k .pooled; from = kind q; to = ghost-kind; among = seat-among (h .seat) })
+
   grave-among : {x : ℕ} {b : List ℕ} {g : ℕ} {a : List ℕ} → Grave z s x b g a → Among x (listsOf z (cols z s) ghostsNo)
   grave-among h = record { front = h .front; back = h .back; is = h .is }
+
+  pub buried-node : {x : ℕ} → Buried z s x → x < z .room + 4
+  buried-node h = omega (arith, pooled-node (k .pooled) ghost-kind (grave-among (h .grave)))
 
   pub buried-release : {x : ℕ} → Buried z s x → CanRelease z s ghostsNo x
   buried-release h = record { pooled = k .pooled; from = ghost-kind; among = grave-among (h .grave) }
@@ -113,6 +131,31 @@ module _ {z : Shape} {s : List ℕ} (k : Keeps z s) where
   pub haunt-fill : {g : ℕ} → CanHaunt z s g → CanFill z s ghostsNo g
   haunt-fill {g} h = can-fill (k .pooled) ghost-kind (places-miss z s (k .pooled) g (h .none)) (omega (arith, in-use, rooms, h .within, h .fewer))
 
+-- ---- what is read at a seat
+
+module _ {z : Shape} {s : List ℕ} {q : Queue} {x r : ℕ} {b : List Entry} {e : Entry} {a : List Entry} (h : Seat z s q x b e a) where
+  pub seat-key : Reads z s Key x r → r ≡ e .key
+  seat-key g = g .value ∙ ap (λ (y : Entry). y .key) (h .here)
+
+  pub seat-value : Reads z s Value x r → r ≡ e .value
+  seat-value g = g .value ∙ ap (λ (y : Entry). y .value) (h .here)
+
+  pub seat-freq : Reads z s Mark x r → r ≡ e .freq
+  seat-freq g = g .value ∙ ap (λ (y : Entry). y .freq) (h .here)
+
+pub seat-queue : (z : Shape) (s : List ℕ) {q : Queue} {x : ℕ} {b : List Entry} {e : Entry} {a : List Entry} → Seat z s q x b e a → queueOf q (stateIn z s) ≡ b ++ (e ∷ a)
+seat-queue z s {q} {x} {b} {e} {a} h =
+    queue-shown z s q ∙ ap (map (entryAt (cols z s))) (h .is) ∙ map-append (entryAt (cols z s)) (h .front) (x ∷ h .back)
+    ∙ (λ i. h .before i ++ (h .here i ∷ h .after i))
+
+pub grave-key : {z : Shape} {s : List ℕ} {x r : ℕ} {b : List ℕ} {g : ℕ} {a : List ℕ} → Grave z s x b g a → Reads z s Key x r → r ≡ g
+grave-key h g = g .value ∙ h .here
+
+pub grave-ghosts : (z : Shape) (s : List ℕ) {x : ℕ} {b : List ℕ} {g : ℕ} {a : List ℕ} → Grave z s x b g a → stateIn z s .ghosts ≡ b ++ (g ∷ a)
+grave-ghosts z s {x} h =
+    ghosts-shown z s ∙ ap (map (keyAt (cols z s))) (h .is) ∙ map-append (keyAt (cols z s)) (h .front) (x ∷ h .back)
+    ∙ (λ i. h .before i ++ (h .here i ∷ h .after i))
+
 -- ---- a move keeps the store in order
 
 module _ {z : Shape} {s s′ : List ℕ} (k : Keeps z s) (n : length s′ ≡ length s) where
@@ -129,6 +172,17 @@ module _ {z : Shape} {s s′ : List ℕ} (k : Keeps z s) (n : length s′ ≡ le
         of = λ b y a h.
             becomes (m .pooled) (m .alike .aside)
             (released-queue z s s′ (h .front) x (h .back) q (h .is) m ∙ ap₂ (λ l r. setQueue q (l ++ r) (stateIn z s)) (h .before) (h .after));
+      }
+
+  pub laid : {q : Queue} {t x : ℕ} → t ≡ listNo q → Moved z s s′ t ghostsNo x → Laid z s s′ q x
+  laid {q} {t} {x} e m₀ =
+      let m : Moved z s s′ (listNo q) ghostsNo x = rw e at m₀ in
+      record {
+        of = λ b y a h.
+            becomes (m .pooled) (m .alike .aside)
+            (moved-down z s s′ (h .front) x (h .back) q (h .is) m
+            ∙ ap (λ (n : ℕ). setGhosts (n ∷ stateIn z s .ghosts) (setQueue q (map (entryAt (cols z s)) (h .front) ++ map (entryAt (cols z s)) (h .back)) (stateIn z s))) (ap (λ (w : Entry). w .key) (h .here))
+            ∙ ap₂ (λ l r. setGhosts (y .key ∷ stateIn z s .ghosts) (setQueue q (l ++ r) (stateIn z s))) (h .before) (h .after));
       }
 
   pub exhumed : {x : ℕ} → Released z s s′ ghostsNo x → Exhumed z s s′ x

@@ -21,9 +21,12 @@ use Rattle.rules.specs.Parts.{bit, total, found, missing, splitBy}
 use Rattle.rules.specs.State.{Entry, State, Queue, Small, Main, keyIs, queueOf, keyed, places, place, nowhere, here, Sound}
 use Rattle.rules.proofs.PartsLaws.{total-append, total-mid}
 use Rattle.rules.proofs.EngineLaws.{place-is, place-none, split-is, split-none}
+use Rattle.store.specs.declared.QueueKind.{QueueKind}
+use Rattle.store.specs.declared.QueueKind.the-variants.{Small as Small·, Main as Main·}
 use Rattle.store.specs.declared.Spot.{Spot}
 use Rattle.store.specs.declared.Spot.the-variants.{Resident, Ghost, Absent}
 use Rattle.store.specs.Holds.{listNo, ghostsNo, entryAt, keyAt, stateIn, Keeps, Held}
+use Rattle.store.specs.Seats.{kindOf, Seated, Buried, Oldest, Tail}
 use Rattle.store.specs.Looks.{Sits, Haunts, Lacks, Looks}
 use Rattle.store.proofs.MapLaws.{map-append, total-map, total-none, total-some}
 use Rattle.store.proofs.ShownLaws.{queue-shown, ghosts-shown}
@@ -83,23 +86,17 @@ module _ {z : Shape} {s : List ℕ} (h : Held z s) where
   pool : Pooled z s
   pool = h .keeps .pooled
 
-  sits-in : (k x : ℕ) (q : Queue) → getD (cols z s Key) x 0 ≡ k → getD (cols z s Tag) x 0 ≡ listNo q → Among x (listsOf z (cols z s) (listNo q)) → Sits z s k x
-  sits-in k x q e t a =
+  sits-in : (k x : ℕ) (q : Queue) → getD (cols z s Key) x 0 ≡ k → Among x (listsOf z (cols z s) (listNo q)) → Sits z s k q x
+  sits-in k x q e a =
       record {
-        queue = q;
-        front = a .front;
-        back = a .back;
-        is = a .is;
-        tag = t;
+        before = map (entryAt (cols z s)) (a .front);
+        entry = entryAt (cols z s) x;
+        after = map (entryAt (cols z s)) (a .back);
+        seat = record { front = a .front; back = a .back; is = a .is; before = refl; here = refl; after = refl };
+        key = e;
         place-is = place-is k (stateIn z s) q _ (entryAt (cols z s) x) _ (h .sound .once k)
             (queue-shown z s q ∙ ap (map (entryAt (cols z s))) (a .is) ∙ map-append (entryAt (cols z s)) (a .front) (x ∷ a .back)) (eq-eqb k (getD (cols z s Key) x 0) (sym e));
       }
-
-  sits-by : (k x t : ℕ) → getD (cols z s Key) x 0 ≡ k → getD (cols z s Tag) x 0 ≡ t → Kind t → t ≢ ghostsNo → Among x (listsOf z (cols z s) t) → Sits z s k x
-  sits-by k x zero e g kind n a = absurd (omega (arith, kind .above))
-  sits-by k x (suc zero) e g kind n a = sits-in k x Small e g a
-  sits-by k x (suc (suc zero)) e g kind n a = sits-in k x Main e g a
-  sits-by k x (suc (suc (suc t))) e g kind n a = absurd (omega (arith, kind .below))
 
   ghost-at : (k x : ℕ) → getD (cols z s Key) x 0 ≡ k → Among x (listsOf z (cols z s) ghostsNo) → Haunts z s k x
   ghost-at k x e a =
@@ -107,10 +104,9 @@ module _ {z : Shape} {s : List ℕ} (h : Held z s) where
       let t = eq-eqb k (getD (cols z s Key) x 0) (sym e) in
       let m = total-mid (λ y. bit (eqb k y)) (map (keyAt (cols z s)) (a .front)) (keyAt (cols z s) x) (map (keyAt (cols z s)) (a .back)) g in
       record {
-        front = a .front;
-        back = a .back;
-        is = a .is;
-        key = e;
+        before = map (keyAt (cols z s)) (a .front);
+        after = map (keyAt (cols z s)) (a .back);
+        grave = record { front = a .front; back = a .back; is = a .is; before = refl; here = e; after = refl };
         place-is = place-none k (stateIn z s) (omega (arith, h .sound .once k, ap bit t));
         split-is =
             ap (splitBy (eqb k)) g
@@ -129,21 +125,30 @@ module _ {z : Shape} {s : List ℕ} (h : Held z s) where
       among : Among x (listsOf z (cols z s) t)
       among = lives-among (pool .carries) (hit .lives) (g .value)
 
-      pub look-resident : (t ≡ ghostsNo → ⊥) → Looks z s k (Resident x)
-      look-resident n =
+      at-list : (q : QueueKind) → t ≡ listNo (kindOf q) → Looks z s k (Resident q x)
+      at-list q n =
           record {
-            resident = λ y q. subst (Sits z s k) (same-node q) (sits-by k x t (hit .holds) (sym (g .value)) (lives-kind (pool .carries) (hit .lives) (g .value)) n among);
-            haunt = λ y q. let b : _≡_ {A = ℕ} 0 1 = cc in absurd (omega arith);
-            absent = λ q. let b : _≡_ {A = ℕ} 0 1 = cc in absurd (omega arith);
+            resident = λ p y w. rw (same-queue w, same-node w) at (sits-in k x (kindOf q) (hit .holds) (subst (λ i. Among x (listsOf z (cols z s) i)) n among));
+            haunt = λ y w. let b : _≡_ {A = ℕ} 0 1 = cc in absurd (omega arith);
+            absent = λ w. let b : _≡_ {A = ℕ} 0 1 = cc in absurd (omega arith);
           }
         where
-          same-node : {y : ℕ} → Resident x ≡ Resident y → x ≡ y
-          same-node q = cc
+          same-queue : {p : QueueKind} {y : ℕ} → Resident q x ≡ Resident p y → q ≡ p
+          same-queue w = cc
+
+          same-node : {p : QueueKind} {y : ℕ} → Resident q x ≡ Resident p y → x ≡ y
+          same-node w = cc
+
+      pub look-small : (t ≡ ghostsNo → ⊥) → t ≡ listNo Small → Looks z s k (Resident Small· x)
+      look-small n e = at-list Small· e
+
+      pub look-main : (t ≡ ghostsNo → ⊥) → (t ≡ listNo Small → ⊥) → Looks z s k (Resident Main· x)
+      look-main n m = at-list Main· (let w = lives-kind (pool .carries) (hit .lives) (g .value) in omega (arith, w .above, w .below))
 
       pub look-ghost : t ≡ ghostsNo → Looks z s k (Ghost x)
       look-ghost n =
           record {
-            resident = λ y q. let b : _≡_ {A = ℕ} 0 1 = cc in absurd (omega arith);
+            resident = λ p y q. let b : _≡_ {A = ℕ} 0 1 = cc in absurd (omega arith);
             haunt = λ y q. subst (Haunts z s k) (same-node q) (ghost-at k x (hit .holds) (subst (λ i. Among x (listsOf z (cols z s) i)) n among));
             absent = λ q. let b : _≡_ {A = ℕ} 0 1 = cc in absurd (omega arith);
           }
@@ -154,7 +159,30 @@ module _ {z : Shape} {s : List ℕ} (h : Held z s) where
     pub look-absent : r ≡ Nothing → Looks z s k Absent
     look-absent e =
         record {
-          resident = λ y q. let b : _≡_ {A = ℕ} 0 1 = cc in absurd (omega arith);
+          resident = λ p y q. let b : _≡_ {A = ℕ} 0 1 = cc in absurd (omega arith);
           haunt = λ y q. let b : _≡_ {A = ℕ} 0 1 = cc in absurd (omega arith);
           absent = λ q. record { none = miss-places z s pool k (f .miss e) };
         }
+
+-- ---- from an answer to what the moves ask for
+
+pub looks-sits : {z : Shape} {s : List ℕ} {k : ℕ} {r : Spot} → Looks z s k r → {q : QueueKind} {x : ℕ} → r ≡ Resident q x → Sits z s k (kindOf q) x
+looks-sits l {q} {x} e = l .resident q x e
+
+pub looks-haunts : {z : Shape} {s : List ℕ} {k : ℕ} {r : Spot} → Looks z s k r → {x : ℕ} → r ≡ Ghost x → Haunts z s k x
+looks-haunts l {x} e = l .haunt x e
+
+pub looks-lacks : {z : Shape} {s : List ℕ} {k : ℕ} {r : Spot} → Looks z s k r → r ≡ Absent → Lacks z s k
+looks-lacks l e = l .absent e
+
+pub looks-seated : {z : Shape} {s : List ℕ} {k : ℕ} {r : Spot} → Looks z s k r → (q : QueueKind) {x : ℕ} → r ≡ Resident q x → Seated z s (kindOf q) x
+looks-seated l q {x} e = let t = l .resident q x e in record { before = t .before; entry = t .entry; after = t .after; seat = t .seat }
+
+pub looks-buried : {z : Shape} {s : List ℕ} {k : ℕ} {r : Spot} → Looks z s k r → {x : ℕ} → r ≡ Ghost x → Buried z s x
+looks-buried {k = k} l {x} e = let t = l .haunt x e in record { before = t .before; key = k; after = t .after; grave = t .grave }
+
+pub oldest-buried : {z : Shape} {s : List ℕ} {x : ℕ} → Oldest z s x → Buried z s x
+oldest-buried o = record { before = o .before; key = o .key; after = []; grave = o .grave }
+
+pub tail-seated : {z : Shape} {s : List ℕ} {q : Queue} {x : ℕ} → Tail z s q x → Seated z s q x
+tail-seated t = record { before = t .before; entry = t .entry; after = []; seat = t .seat }

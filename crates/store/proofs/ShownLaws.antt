@@ -80,7 +80,16 @@ module _ (z : Shape) (s s′ : List ℕ) (a : List ℕ) (x : ℕ) (b : List ℕ)
   moved-main Main h m =
       carried-alike z s s′ _ (m .of a b h) (m .alike) ∙ ap (λ l. pushTo Main (e x) (setQueue Main l (stateIn z s))) (map-append e a b)
 
-  -- to the front of the ghosts
+  -- from a queue to the front of the ghosts
+  pub moved-down : (q : Queue) → listsOf z (cols z s) (listNo q) ≡ a ++ x ∷ b → Moved z s s′ (listNo q) ghostsNo x
+      → stateIn z s′ ≡ setGhosts (k x ∷ stateIn z s .ghosts) (setQueue q (map e a ++ map e b) (stateIn z s))
+  unfolding stateIn
+  moved-down Small h m =
+      carried-alike z s s′ _ (m .of a b h) (m .alike) ∙ ap (λ l. setGhosts (k x ∷ stateIn z s .ghosts) (setQueue Small l (stateIn z s))) (map-append e a b)
+  moved-down Main h m =
+      carried-alike z s s′ _ (m .of a b h) (m .alike) ∙ ap (λ l. setGhosts (k x ∷ stateIn z s .ghosts) (setQueue Main l (stateIn z s))) (map-append e a b)
+
+  -- within the ghosts, to the front
   pub moved-ghost : listsOf z (cols z s) ghostsNo ≡ a ++ x ∷ b → Moved z s s′ ghostsNo ghostsNo x
       → stateIn z s′ ≡ setGhosts (k x ∷ (map k a ++ map k b)) (stateIn z s)
   unfolding stateIn

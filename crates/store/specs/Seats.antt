@@ -54,6 +54,12 @@ pub record Buried (z : Shape) (s : List ℕ) (x : ℕ) : Type 0 where
   pub after : List ℕ
   pub grave : Grave z s x before key after
 
+-- the oldest one
+pub record Oldest (z : Shape) (s : List ℕ) (x : ℕ) : Type 0 where
+  pub before : List ℕ
+  pub key : ℕ
+  pub grave : Grave z s x before key []
+
 -- ---- what the moves are in the state
 
 -- the entry at x got the frequency n; it stays where it is
@@ -71,6 +77,10 @@ pub record Freed (z : Shape) (s s′ : List ℕ) (q : Queue) (x : ℕ) : Type 0 
 -- the entry at x went to Main's head with the frequency n
 pub record SentBack (z : Shape) (s s′ : List ℕ) (q : Queue) (x n : ℕ) : Type 0 where
   pub of : (b : List Entry) (e : Entry) (a : List Entry) → Seat z s q x b e a → Becomes z s s′ (pushTo Main (withFreq n e) (setQueue q (b ++ a) (stateIn z s)))
+
+-- the entry at x left its queue, and its node is the newest ghost
+pub record Laid (z : Shape) (s s′ : List ℕ) (q : Queue) (x : ℕ) : Type 0 where
+  pub of : (b : List Entry) (e : Entry) (a : List Entry) → Seat z s q x b e a → Becomes z s s′ (setGhosts (e .key ∷ stateIn z s .ghosts) (setQueue q (b ++ a) (stateIn z s)))
 
 -- the ghost at x was taken off
 pub record Exhumed (z : Shape) (s s′ : List ℕ) (x : ℕ) : Type 0 where

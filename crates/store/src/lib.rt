@@ -9,7 +9,7 @@ ghost use Rattle.rules.specs.Verdict.{storeBytes};
 ghost use Rattle.sizing.specs.Answers.{limitsOf};
 ghost use mathlib.Core.List.{_∷_};
 ghost use Rattle.store.specs.Holds.{listNo, ghostsNo, stateIn, shapeFor, Keeps, Held, Becomes};
-ghost use Rattle.store.specs.Seats.{kindOf, Seated, Tail, Buried, Marked, Replaced, Freed, SentBack, Exhumed, Fronted, CanAdmit, CanHaunt};
+ghost use Rattle.store.specs.Seats.{kindOf, Seated, Tail, Buried, Oldest, Marked, Replaced, Freed, SentBack, Laid, Exhumed, Fronted, CanAdmit, CanHaunt};
 ghost use Rattle.store.specs.Looks.{Looks};
 ghost use Rattle.store.specs.Created.{Limited, Created, Stated};
 use key_index::Found;
@@ -24,7 +24,7 @@ pub enum QueueKind {
 
 // Where a key stands: resident at a node, a ghost at a node, or neither.
 pub enum Spot {
-    Resident(usize),
+    Resident(QueueKind, usize),
     Ghost(usize),
     Absent,
 }
@@ -91,6 +91,14 @@ pub fn tail_of(s: &[u8], z: Shape, q: QueueKind) -> usize
     lists::tail_of(s, z, list_of(q))
 }
 
+// The oldest ghost, where there is one.
+pub fn oldest_of(s: &[u8], z: Shape) -> usize
+    requires { ⌜ Keeps z (now s) × (1 ≤ length (stateIn z (now s) .ghosts)) ⌝ }
+    ensures { λ r. ⌜ Oldest z (now (s .entry)) r ⌝ }
+{
+    lists::tail_of(s, z, lists::GHOSTS)
+}
+
 // One walk along the key's chain tells all three apart, since residents and ghosts share the index.
 pub fn look(s: &[u8], z: Shape, k: u64) -> Spot
     requires { ⌜ Held z (now s) ⌝ }
@@ -99,10 +107,14 @@ pub fn look(s: &[u8], z: Shape, k: u64) -> Spot
     let found = key_index::find(s, z, k);
     match found {
         Found::At(x) => {
-            if nodes::queue_of(s, z, x) == lists::GHOSTS {
+            let t = nodes::queue_of(s, z, x);
+            if t == lists::GHOSTS {
                 return Spot::Ghost(x);
             }
-            Spot::Resident(x)
+            if t == lists::SMALL {
+                return Spot::Resident(QueueKind::Small, x);
+            }
+            Spot::Resident(QueueKind::Main, x)
         }
         Found::Nothing => Spot::Absent,
     }
@@ -131,6 +143,14 @@ pub fn send_back(s: &mut [u8], z: Shape, q: QueueKind, x: usize, n: usize)
 {
     pool::move_to(s, z, list_of(q), lists::MAIN, x);
     nodes::set_mark(s, z, x, n);
+}
+
+// The entry of a queue at a node leaves, and the node becomes the newest ghost: its key is in the index already.
+pub fn lay_down(s: &mut [u8], z: Shape, q: QueueKind, x: usize)
+    requires { ⌜ Keeps z (now s) × Seated z (now s) (kindOf q) x ⌝ }
+    ensures { λ _. ⌜ Laid z (now (s .entry)) (now (s .exit)) (kindOf q) x ⌝ }
+{
+    pool::move_to(s, z, list_of(q), lists::GHOSTS, x);
 }
 
 // A new pair goes to the head of a queue with frequency 0.

@@ -1,7 +1,7 @@
 -- `store::look` meets its contract.
 -- Assumes nothing.
 use borrow.Author.Needs.{needs}
-use Rattle.store.proofs.LookLaws.{look-node, look-resident, look-ghost, look-absent}
+use Rattle.store.proofs.LookLaws.{look-node, look-small, look-main, look-ghost, look-absent}
 use Rattle.store.proofs.look.Statement.{statement}
 use Rattle.store.proofs.look.Tie as tie
 
@@ -13,6 +13,7 @@ look-spec =
     (λ c. search needs)
     (λ c κs. (search needs, search look-node))
     (λ c. search look-ghost)
+    (λ c. search look-small)
     (λ c. search needs)
-    (λ c. search look-resident)
+    (λ c. search look-main)
     (λ c. search look-absent))

@@ -1,0 +1,223 @@
+-- The laws of the ghost list's functions: each answer of the rules from what was found and moved.
+-- Assumes nothing.
+use mathlib.Core.Path.{_≡_, refl, sym, ap, ap₂, _∙_}
+use mathlib.Core.Bool.{Bool, true, false, cond}
+use mathlib.Core.List.{List, [], _∷_, _++_, append-nil}
+use mathlib.Core.Option.{Option, none, some}
+use Prim.Native.Nat.{ℕ, zero, suc, _+_, _≤_, _<_}
+use native.Mathlib.Omega.{arith}
+use lib.Dec.{eqb, ltb}
+use lib.ListN.{length}
+use borrow.Author.Tests.{eq-eqb, lt-ltb, le-ltb, ltb-true, ltb-false}
+use Rattle.nodes.specs.Nodes.{Key, Rest, cols, Reads}
+use Rattle.nodes.specs.declared.Shape.{Shape}
+use Rattle.rules.specs.declared.GuestBlock.{GuestBlock}
+use Rattle.rules.specs.Parts.{bit, total, Pop, popped, popTail, Split, missing, found, splitBy}
+use Rattle.rules.specs.State.{Entry, State, Queue, Small, keyIs, queueOf, setQueue, setGhosts, overAll, residents, keyed, places, Sound}
+use Rattle.rules.specs.Ghosts.{Given, keeps, dropped, inFront, evictLru, recordGhost, Removed, without, removeGhost}
+use Rattle.rules.specs.Eviction.{ghosted}
+use Rattle.rules.proofs.StateLaws.{put-total}
+use Rattle.rules.proofs.GhostsLaws.{lru-total, lru-less, record-zero, record-there, record-room, record-full, record-over}
+use Rattle.rules.proofs.EngineLaws.{pop-is, split-none}
+use Rattle.store.specs.Holds.{stateIn, Keeps, Held, Becomes}
+use Rattle.store.specs.declared.QueueKind.{QueueKind}
+use Rattle.store.specs.declared.Spot.{Spot}
+use Rattle.store.specs.declared.Spot.the-variants.{Resident, Ghost, Absent}
+use Rattle.store.specs.Seats.{kindOf, Seat, Tail, Grave, Buried, Oldest, Laid, Exhumed, Fronted, CanHaunt}
+use Rattle.store.specs.Looks.{Sits, Haunts, Lacks, Looks}
+use Rattle.store.proofs.KeepsLaws.{grave-key, grave-ghosts, seat-queue, becomes-then}
+use Rattle.ghost_list.specs.declared.Given.{Given as Given·}
+use Rattle.ghost_list.specs.declared.Given.the-variants.{Key as Key·, Nothing}
+use Rattle.ghost_list.specs.Ghosts.{givenOf, Gave, Recorded, Lost, Made, Trimmed, Took, Emptied, Buries}
+
+-- an entry of a queue counts
+in-queue : (q : Queue) (σ : State) (b : List Entry) (e : Entry) (a : List Entry) → queueOf q σ ≡ b ++ (e ∷ a) → (f : Entry → ℕ) → f e ≤ overAll f σ
+in-queue q σ b e a h f = omega (arith, put-total f q b e [] a σ h)
+
+-- ---- nothing happens
+
+same-ghosts : (z : Shape) (s : List ℕ) → Keeps z s → Becomes z s s (setGhosts (stateIn z s .ghosts) (stateIn z s))
+same-ghosts z s k = record { keeps = k; state = refl; rest = refl }
+
+nil : {A : Type 0} (l : List A) → length l ≡ 0 → l ≡ []
+nil [] h = refl
+nil (x ∷ l) h = absurd (omega arith)
+
+-- ---- evict_lru
+
+lru-last : (b : List ℕ) (k : ℕ) → evictLru (b ++ (k ∷ [])) ≡ record { ghosts = b; back = some k }
+unfolding evictLru
+lru-last b k = ap dropped (pop-is b k)
+
+lru-none : (g : List ℕ) → g ≡ [] → evictLru g ≡ keeps g
+unfolding evictLru
+lru-none g h = rw h
+
+pub lost-none : {z : Shape} {s : List ℕ} → Keeps z s → {n : ℕ} → n ≡ length (stateIn z s .ghosts) → n ≡ 0 → Lost z s s Nothing
+lost-none {z} {s} k e h =
+    let w = lru-none (stateIn z s .ghosts) (nil (stateIn z s .ghosts) (sym e ∙ h)) in
+    record { gave = record { becomes = rw w (same-ghosts z s k); back = rw w } }
+
+pub lost-last : {z : Shape} {s s′ : List ℕ} {x : ℕ} → Oldest z s x → {k : ℕ} → Reads z s Key x k → Exhumed z s s′ x → (g : GuestBlock) → g .0 ≡ k → Lost z s s′ (Key· g)
+lost-last {z} {s} {s′} {x} o {k} r m g e =
+    let w : evictLru (stateIn z s .ghosts) ≡ record { ghosts = o .before; back = some (o .key) } =
+    ap evictLru (grave-ghosts z s (o .grave)) ∙ lru-last (o .before) (o .key) in
+    let c = m .of (o .before) (o .key) [] (o .grave) in
+    record {
+      gave = record { becomes = rw (w, ← append-nil (o .before)) c; back = rw w (ap some (e ∙ grave-key (o .grave) r)) };
+    }
+
+-- ---- remove
+
+module _ {z : Shape} {s : List ℕ} {k : ℕ} where
+  pub took-there : {s′ : List ℕ} {r : Spot} → Looks z s k r → {x : ℕ} → r ≡ Ghost x → Exhumed z s s′ x → Took z s s′ k true
+  unfolding removeGhost
+  took-there l {x} e m =
+      let h = l .haunt x e in
+      let w : removeGhost k (stateIn z s .ghosts) ≡ record { ghosts = h .before ++ h .after; was = true } = ap (without (stateIn z s .ghosts)) (h .split-is) in
+      record { becomes = rw w (m .of (h .before) k (h .after) (h .grave)); was = rw w }
+
+  not-there : Keeps z s → total (λ y. bit (eqb k y)) (stateIn z s .ghosts) ≡ 0 → Took z s s k false
+  unfolding removeGhost
+  not-there p h =
+      let w : removeGhost k (stateIn z s .ghosts) ≡ record { ghosts = stateIn z s .ghosts; was = false } = ap (without (stateIn z s .ghosts)) (split-none (eqb k) (stateIn z s .ghosts) h) in
+      record { becomes = rw w (same-ghosts z s p); was = rw w }
+
+  -- a resident key is no ghost
+  pub took-resident : Held z s → {r : Spot} → Looks z s k r → {q : QueueKind} {x : ℕ} → r ≡ Resident q x → Took z s s k false
+  took-resident h l {q} {x} e =
+      let t = l .resident q x e in
+      let m = in-queue (kindOf q) (stateIn z s) (t .before) (t .entry) (t .after) (seat-queue z s (t .seat)) in
+      not-there (h .keeps) (omega (arith, h .sound .once k, m (λ y. bit (keyIs k y)), ap bit (eq-eqb k (t .entry .key) (sym (t .key)))))
+
+  pub took-absent : Held z s → {r : Spot} → Looks z s k r → r ≡ Absent → Took z s s k false
+  took-absent h l e = not-there (h .keeps) (omega (arith, l .absent e .none))
+
+-- ---- record
+
+module _ {z : Shape} {s : List ℕ} (k : ℕ) where
+  recorded : {s′ : List ℕ} {r : Given·} (w : Given) → recordGhost (stateIn z s .limits .ghostLimit) k (stateIn z s .ghosts) ≡ w → Gave z s s′ w r → Recorded z s s′ k r
+  recorded w e g = record { gave = rw e g }
+
+  pub recorded-zero : Held z s → {n : ℕ} → n ≡ stateIn z s .limits .ghostLimit → n ≡ 0 → Recorded z s s k Nothing
+  recorded-zero h e q =
+      recorded (keeps (stateIn z s .ghosts)) (record-zero (stateIn z s .limits .ghostLimit) k (stateIn z s .ghosts) (sym e ∙ q)) (record { becomes = same-ghosts z s (h .keeps); back = refl })
+
+  module _ {n : ℕ} (e : n ≡ stateIn z s .limits .ghostLimit) (some : n ≡ 0 → ⊥) {r : Spot} (l : Looks z s k r) where
+    pub recorded-there : {s′ : List ℕ} {x : ℕ} → r ≡ Ghost x → Fronted z s s′ x → Recorded z s s′ k Nothing
+    recorded-there {s′} {x} q m =
+        let h = l .haunt x q in
+        recorded (keeps (k ∷ (h .before ++ h .after))) (record-there (stateIn z s .limits .ghostLimit) k (stateIn z s .ghosts) (h .before) k (h .after) (omega arith) (h .split-is))
+        (record { becomes = m .of (h .before) k (h .after) (h .grave); back = refl })
+
+    -- a key that is resident is not recorded
+    pub not-resident : keyed k (stateIn z s) ≡ 0 → {q : QueueKind} {x : ℕ} → r ≡ Resident q x → Recorded z s s k Nothing
+    not-resident nil {q} {x} w =
+        let t = l .resident q x w in
+        let m = in-queue (kindOf q) (stateIn z s) (t .before) (t .entry) (t .after) (seat-queue z s (t .seat)) (λ y. bit (keyIs k y)) in
+        absurd (omega (arith, nil, m, ap bit (eq-eqb k (t .entry .key) (sym (t .key)))))
+
+  module _ (h : Held z s) (lack : Lacks z s k) (some : 1 ≤ stateIn z s .limits .ghostLimit) {s₁ : List ℕ} {r : Given·} (g : Made z s s₁ r) where
+    missing-is : splitBy (eqb k) (stateIn z s .ghosts) ≡ missing
+    missing-is = split-none (eqb k) (stateIn z s .ghosts) (omega (arith, lack .none))
+
+    -- what making room leaves has no k, and is short of the limit
+    room-for : (t : Bool) → ltb (length (stateIn z s .ghosts)) (stateIn z s .limits .ghostLimit) ≡ t
+        → (total (λ y. bit (eqb k y)) (cond t (keeps (stateIn z s .ghosts)) (evictLru (stateIn z s .ghosts)) .ghosts) ≡ 0)
+        × (length (cond t (keeps (stateIn z s .ghosts)) (evictLru (stateIn z s .ghosts)) .ghosts) < stateIn z s .limits .ghostLimit)
+    room-for true e = (omega (arith, lack .none), omega (arith, ltb-true))
+    room-for false e = (omega (arith, lack .none, lru-total (λ y. bit (eqb k y)) (stateIn z s .ghosts)), omega (arith, lru-less (stateIn z s .ghosts), h .sound .few-ghosts))
+
+    pub can-haunt : CanHaunt z s₁ k
+    can-haunt =
+        let w = g .gave .becomes .state in
+        let f = room-for (ltb (length (stateIn z s .ghosts)) (stateIn z s .limits .ghostLimit)) refl in
+        record {
+          none = omega (arith, lack .none, ap (places k) w, f .0);
+          within = omega (arith, h .sound .within, ap residents w, ap (λ (y : State). y .limits .capacity) w);
+          fewer = omega (arith, f .1, ap (λ (y : State). length (y .ghosts)) w, ap (λ (y : State). y .limits .ghostLimit) w);
+        }
+
+    by-test : (t : Bool) → ltb (length (stateIn z s .ghosts)) (stateIn z s .limits .ghostLimit) ≡ t
+        → recordGhost (stateIn z s .limits .ghostLimit) k (stateIn z s .ghosts) ≡ inFront k (cond t (keeps (stateIn z s .ghosts)) (evictLru (stateIn z s .ghosts)))
+    by-test true e = record-room (stateIn z s .limits .ghostLimit) k (stateIn z s .ghosts) (ltb-true _ _ e) missing-is
+    by-test false e = record-full (stateIn z s .limits .ghostLimit) k (stateIn z s .ghosts) some (ltb-false _ _ e) missing-is
+
+    pub recorded-new : {s′ : List ℕ} → Becomes z s₁ s′ (setGhosts (k ∷ stateIn z s₁ .ghosts) (stateIn z s₁)) → Recorded z s s′ k r
+    recorded-new b =
+        recorded _ (by-test (ltb (length (stateIn z s .ghosts)) (stateIn z s .limits .ghostLimit)) refl)
+        (record { becomes = becomes-then (g .gave .becomes) (rw (g .gave .becomes .state) at b); back = g .gave .back })
+
+-- ---- make_room and trim
+
+module _ {z : Shape} {s : List ℕ} {n m : ℕ} (e : n ≡ length (stateIn z s .ghosts)) (q : m ≡ stateIn z s .limits .ghostLimit) where
+  pub made-none : Keeps z s → n < m → Made z s s Nothing
+  made-none k l = record { gave = rw (lt-ltb (length (stateIn z s .ghosts)) (stateIn z s .limits .ghostLimit) (omega arith)) (record { becomes = same-ghosts z s k; back = refl }) }
+
+  pub made-lost : m ≤ n → {s′ : List ℕ} {r : Given·} → Lost z s s′ r → Made z s s′ r
+  made-lost l g = record { gave = rw (le-ltb (length (stateIn z s .ghosts)) (stateIn z s .limits .ghostLimit) (omega arith)) (g .gave) }
+
+  pub trimmed-none : Keeps z s → n ≤ m → Trimmed z s s
+  trimmed-none k l = record { becomes = rw (le-ltb (stateIn z s .limits .ghostLimit) (length (stateIn z s .ghosts)) (omega arith)) (same-ghosts z s k) }
+
+  pub trimmed-lost : m < n → {s′ : List ℕ} {r : Given·} → Lost z s s′ r → Trimmed z s s′
+  trimmed-lost l g = record { becomes = rw (lt-ltb (stateIn z s .limits .ghostLimit) (length (stateIn z s .ghosts)) (omega arith)) (g .gave .becomes) }
+
+-- ---- bury
+
+pub laid-keeps : {z : Shape} {s s₁ : List ℕ} {x : ℕ} → Tail z s Small x → Laid z s s₁ Small x → Keeps z s₁
+laid-keeps t m = m .of (t .before) (t .entry) [] (t .seat) .keeps
+
+-- the key in front, and the oldest dropped where there is one too many: recording
+by-trim : (limit k : ℕ) (g : List ℕ) → length g ≤ limit → splitBy (eqb k) g ≡ missing → (t : Bool) → ltb limit (suc (length g)) ≡ t
+    → recordGhost limit k g .ghosts ≡ cond t (evictLru (k ∷ g) .ghosts) (k ∷ g)
+by-trim limit k g h e true q = record-over limit k g h (ltb-true limit (suc (length g)) q) e
+by-trim limit k g h e false q = ap (λ (w : Given). w .ghosts) (record-room limit k g (ltb-false limit (suc (length g)) q) e)
+
+module _ {z : Shape} {s s₁ s₂ : List ℕ} {x : ℕ} (h : Held z s) (m : Laid z s s₁ Small x) (r : Trimmed z s₁ s₂) where
+  module _ (b : List Entry) (e : Entry) (t : Seat z s Small x b e []) where
+    fell : Becomes z s s₁ (setGhosts (e .key ∷ stateIn z s .ghosts) (setQueue Small b (stateIn z s)))
+    fell = rw (← append-nil b) (m .of b e [] t)
+
+    no-ghost : splitBy (eqb (e .key)) (stateIn z s .ghosts) ≡ missing
+    no-ghost =
+        let n = in-queue Small (stateIn z s) b e [] (seat-queue z s t) (λ y. bit (keyIs (e .key) y)) in
+        split-none (eqb (e .key)) (stateIn z s .ghosts) (omega (arith, h .sound .once (e .key), ap bit (eq-eqb (e .key) (e .key) refl)))
+
+    buried : Becomes z s s₂ (ghosted Small e (setQueue Small b (stateIn z s)))
+    buried =
+        let w = by-trim (stateIn z s .limits .ghostLimit) (e .key) (stateIn z s .ghosts) (h .sound .few-ghosts) no-ghost (ltb (stateIn z s .limits .ghostLimit) (suc (length (stateIn z s .ghosts)))) refl in
+        rw w (becomes-then fell (rw (fell .state) at (r .becomes)))
+
+  pub buries : Buries z s s₂ x
+  buries = record { of = buried }
+
+-- ---- clear
+
+-- what is left when all ghosts are gone is as it was
+pub record Clearing (z : Shape) (s₀ s : List ℕ) : Type 0 where
+  pub keeps : Keeps z s
+  pub state : setGhosts [] (stateIn z s) ≡ setGhosts [] (stateIn z s₀)
+  pub rest : cols z s Rest ≡ cols z s₀ Rest
+  pub same : length s ≡ length s₀
+
+pub ghostsLeft : Shape → List ℕ → ℕ
+ghostsLeft z s = length (stateIn z s .ghosts)
+
+pub clearing-start : {z : Shape} {s : List ℕ} → Keeps z s → Clearing z s s
+clearing-start k = record { keeps = k; state = refl; rest = refl; same = refl }
+
+module _ {z : Shape} {s₀ s : List ℕ} (c : Clearing z s₀ s) where
+  pub clearing-next : {s₁ : List ℕ} {r : Given·} → Lost z s s₁ r → length s₁ ≡ length s → Clearing z s₀ s₁
+  clearing-next g n =
+      let b = g .gave .becomes in
+      record { keeps = b .keeps; state = ap (setGhosts []) (b .state) ∙ c .state; rest = b .rest ∙ c .rest; same = n ∙ c .same }
+
+  pub clearing-less : {n : ℕ} → n ≡ length (stateIn z s .ghosts) → 0 < n → {s₁ : List ℕ} {r : Given·} → Lost z s s₁ r → ghostsLeft z s₁ < ghostsLeft z s
+  unfolding ghostsLeft
+  clearing-less e h g = omega (arith, ap (λ (y : State). length (y .ghosts)) (g .gave .becomes .state), lru-less (stateIn z s .ghosts))
+
+  pub clearing-end : {n : ℕ} → n ≡ length (stateIn z s .ghosts) → n ≤ 0 → Emptied z s₀ s
+  clearing-end e h =
+      let z₀ = nil (stateIn z s .ghosts) (omega arith) in
+      record { becomes = record { keeps = c .keeps; state = ap (λ (g : List ℕ). setGhosts g (stateIn z s)) z₀ ∙ c .state; rest = c .rest } }

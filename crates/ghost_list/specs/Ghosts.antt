@@ -1,0 +1,56 @@
+-- What each function of the ghost list does to the state, and what it gives back, in the terms of the rules.
+-- Assumes nothing.
+use mathlib.Core.Path.{_≡_}
+use mathlib.Core.Bool.{Bool, cond}
+use mathlib.Core.List.{List, []}
+use mathlib.Core.Option.{Option, none, some}
+use Prim.Native.Nat.{ℕ}
+use lib.Dec.{ltb}
+use lib.ListN.{length}
+use Rattle.nodes.specs.declared.Shape.{Shape}
+use Rattle.rules.specs.State.{Entry, State, Queue, Small, setQueue, setGhosts}
+use Rattle.rules.specs.Ghosts.{Given, keeps, evictLru, recordGhost, Removed, removeGhost, clearGhosts}
+use Rattle.rules.specs.Eviction.{ghosted}
+use Rattle.store.specs.Holds.{stateIn, Becomes}
+use Rattle.store.specs.Seats.{Seat}
+use Rattle.ghost_list.specs.declared.Given.{Given as Given·}
+use Rattle.ghost_list.specs.declared.Given.the-variants.{Key, Nothing}
+
+-- the key that is given back
+abbrev pub givenOf : Given· → Option ℕ
+givenOf (Key k) = some (k .0)
+givenOf Nothing = none
+
+-- the ghosts became those of w, and what w gives back was given back
+pub record Gave (z : Shape) (s s′ : List ℕ) (w : Given) (r : Given·) : Type 0 where
+  pub becomes : Becomes z s s′ (setGhosts (w .ghosts) (stateIn z s))
+  pub back : givenOf r ≡ w .back
+
+-- `record`
+pub record Recorded (z : Shape) (s s′ : List ℕ) (k : ℕ) (r : Given·) : Type 0 where
+  pub gave : Gave z s s′ (recordGhost (stateIn z s .limits .ghostLimit) k (stateIn z s .ghosts)) r
+
+-- `evict_lru`
+pub record Lost (z : Shape) (s s′ : List ℕ) (r : Given·) : Type 0 where
+  pub gave : Gave z s s′ (evictLru (stateIn z s .ghosts)) r
+
+-- the oldest is dropped where there is no room for one more
+pub record Made (z : Shape) (s s′ : List ℕ) (r : Given·) : Type 0 where
+  pub gave : Gave z s s′ (cond (ltb (length (stateIn z s .ghosts)) (stateIn z s .limits .ghostLimit)) (keeps (stateIn z s .ghosts)) (evictLru (stateIn z s .ghosts))) r
+
+-- and where there is one too many
+pub record Trimmed (z : Shape) (s s′ : List ℕ) : Type 0 where
+  pub becomes : Becomes z s s′ (setGhosts (cond (ltb (stateIn z s .limits .ghostLimit) (length (stateIn z s .ghosts))) (evictLru (stateIn z s .ghosts) .ghosts) (stateIn z s .ghosts)) (stateIn z s))
+
+-- `remove`
+pub record Took (z : Shape) (s s′ : List ℕ) (k : ℕ) (r : Bool) : Type 0 where
+  pub becomes : Becomes z s s′ (setGhosts (removeGhost k (stateIn z s .ghosts) .ghosts) (stateIn z s))
+  pub was : r ≡ removeGhost k (stateIn z s .ghosts) .was
+
+-- `clear`
+pub record Emptied (z : Shape) (s s′ : List ℕ) : Type 0 where
+  pub becomes : Becomes z s s′ (setGhosts (clearGhosts (stateIn z s .ghosts)) (stateIn z s))
+
+-- the last entry of Small left, and was recorded
+pub record Buries (z : Shape) (s s′ : List ℕ) (x : ℕ) : Type 0 where
+  pub of : (b : List Entry) (e : Entry) → Seat z s Small x b e [] → Becomes z s s′ (ghosted Small e (setQueue Small b (stateIn z s)))

@@ -2,12 +2,12 @@
 ghost use mathlib.Core.Path.{_≡_};
 ghost use Prim.Native.Nat.{_≤_, _<_};
 ghost use lib.ListN.{length};
-ghost use Rattle.rules.specs.State.{queueOf, residents};
-ghost use Rattle.rules.specs.Eviction.{victim};
+ghost use mathlib.Core.List.{[], _∷_};
+ghost use Rattle.rules.specs.State.{fresh, residents};
+ghost use Rattle.rules.specs.Eviction.{evict, evictIfFull, tell};
 ghost use Rattle.store.specs.Holds.{stateIn, Held};
-ghost use Rattle.store.specs.Seats.{kindOf, Tail};
-ghost use Rattle.evict.specs.Evicts.{coolTo, Steps, Evicts, Makes, Leaves};
-
+ghost use Rattle.store.specs.Seats.{kindOf, Tail, SentBack};
+ghost use Rattle.evict.specs.Evicts.{coolTo, pushedOf, Picks, Steps, Makes, Leaves};
 use nodes::Shape;
 use rules::GuestBlock;
 use rules::PhysicalBlock;
@@ -35,7 +35,7 @@ pub struct Evicted {
 // The queue whose tail is popped: Small above its limit, otherwise Main unless it is empty.
 fn victim(s: &[u8], z: Shape) -> QueueKind
     requires { ⌜ Held z (now s) ⌝ }
-    ensures { λ r. ⌜ kindOf r ≡ victim (stateIn z (now (s .entry))) ⌝ }
+    ensures { λ r. ⌜ Picks z (now (s .entry)) (kindOf r) ⌝ }
 {
     if store::small_limit_of(s, z) < store::len_of(s, z, QueueKind::Small) {
         return QueueKind::Small;
@@ -72,4 +72,89 @@ fn leave(s: &mut [u8], z: Shape, q: QueueKind, x: usize)
         QueueKind::Small => ghost_list::bury(s, z, x),
         QueueKind::Main => store::release(s, z, QueueKind::Main, x),
     }
+}
+
+// An entry goes to Main's head with its frequency cooled.
+pub fn go_back(s: &mut [u8], z: Shape, q: QueueKind, x: usize, freq: usize)
+    requires { ⌜ Held z (now s) × Tail z (now s) (kindOf q) x × (freq < 256) ⌝ }
+    ensures { λ _. ⌜ SentBack z (now (s .entry)) (now (s .exit)) (kindOf q) x (coolTo (kindOf q) freq) ⌝ }
+{
+    store::send_back(s, z, q, x, cooled(q, freq));
+}
+
+// The tail that was picked goes back or leaves, by its frequency.
+fn settle(s: &mut [u8], z: Shape, q: QueueKind, x: usize) -> Turn
+    requires { ⌜ Held z (now s) × Picks z (now s) (kindOf q) × Tail z (now s) (kindOf q) x ⌝ }
+    ensures { λ r. ⌜ Steps z (now (s .entry)) (now (s .exit)) r ⌝ }
+{
+    let freq = nodes::mark_of(s, z, x);
+    if 0 < freq {
+        go_back(s, z, q, x, freq);
+        return Turn::Moved(q);
+    }
+    let k = nodes::key_of(s, z, x);
+    let v = nodes::value_of(s, z, x);
+    leave(s, z, q, x);
+    Turn::Left(q, GuestBlock(k), PhysicalBlock(v))
+}
+
+// One step of the rule, on a cache that is not empty.
+fn step(s: &mut [u8], z: Shape) -> Turn
+    requires { ⌜ Held z (now s) × (1 ≤ residents (stateIn z (now s))) ⌝ }
+    ensures { λ r. ⌜ Steps z (now (s .entry)) (now (s .exit)) r ⌝ }
+{
+    let q = victim(s, z);
+    let x = store::tail_of(s, z, q);
+    settle(s, z, q, x)
+}
+
+fn pushed_from(q: QueueKind, k: GuestBlock, v: PhysicalBlock) -> Pushed
+    ensures { λ r. ⌜ pushedOf r ≡ tell (kindOf q) (fresh (k .0) (v .0)) ∷ [] ⌝ }
+{
+    match q {
+        QueueKind::Small => Pushed::FromSmall(k, v),
+        QueueKind::Main => Pushed::FromMain(k, v),
+    }
+}
+
+// Steps until a pair has left. Each step that moves an entry lowers the sum of frequencies, so the loop ends.
+pub fn evict(s: &mut [u8], z: Shape) -> Evicted
+    requires { ⌜ Held z (now s) × (1 ≤ residents (stateIn z (now s))) ⌝ }
+    ensures { λ r. ⌜ Makes z (now (s .entry)) (now (s .exit)) (evict (stateIn z (now (s .entry)))) r ⌝ }
+{
+    let mut pops = 0;
+    loop {
+        let turn = step(s, z);
+        pops += 1;
+        match turn {
+            Turn::Moved(_) => {}
+            Turn::Left(q, k, v) => {
+                return Evicted {
+                    pushed: pushed_from(q, k, v),
+                    pops,
+                }
+            }
+        }
+    }
+}
+
+fn residents_of(s: &[u8], z: Shape) -> u64
+    requires { ⌜ Held z (now s) ⌝ }
+    ensures { λ r. ⌜ r ≡ residents (stateIn z (now (s .entry))) ⌝ }
+{
+    store::len_of(s, z, QueueKind::Small) + store::len_of(s, z, QueueKind::Main)
+}
+
+// Eviction where the cache is full; otherwise nothing.
+pub fn evict_if_full(s: &mut [u8], z: Shape) -> Evicted
+    requires { ⌜ Held z (now s) ⌝ }
+    ensures { λ r. ⌜ Makes z (now (s .entry)) (now (s .exit)) (evictIfFull (stateIn z (now (s .entry)))) r ⌝ }
+{
+    if residents_of(s, z) < store::capacity_of(s, z) {
+        return Evicted {
+            pushed: Pushed::Nothing,
+            pops: 0,
+        };
+    }
+    evict(s, z)
 }

@@ -4,12 +4,14 @@ use mathlib.Core.Path.{_≡_, refl, sym, ap, _∙_}
 use mathlib.Core.List.{List, [], _∷_, _++_, append-nil}
 use Prim.Native.Nat.{ℕ, _+_, _≤_, _<_}
 use native.Mathlib.Omega.{arith}
-use lib.ListN.{length}
+use lib.ListN.{length, length-append}
 use Rattle.nodes.specs.Nodes.{Rest, cols}
 use Rattle.nodes.specs.declared.Shape.{Shape}
 use Rattle.rules.specs.State.{Entry, State, Queue, Small, Main, queueOf, setQueue, emptyAt}
 use Rattle.rules.specs.Records.{CL, OK, says}
 use Rattle.rules.specs.Requests.{apply}
+use Rattle.rules.proofs.PartsLaws.{nil}
+use Rattle.rules.proofs.StateLaws.{set-again, set-own, own-queue}
 use Rattle.store.specs.Holds.{stateIn, Keeps, Becomes}
 use Rattle.store.specs.Seats.{Tail, Freed}
 use Rattle.store.proofs.KeepsLaws.{seat-queue, becomes-then}
@@ -29,26 +31,6 @@ pub record Draining (z : Shape) (s₀ s : List ℕ) (q : Queue) : Type 0 where
 pub left : Shape → Queue → List ℕ → ℕ
 left z q s = length (queueOf q (stateIn z s))
 
-set-same : (q : Queue) (l m : List Entry) (σ : State) → setQueue q l (setQueue q m σ) ≡ setQueue q l σ
-set-same Small l m σ = refl
-set-same Main l m σ = refl
-
-own-queue : (q : Queue) (l : List Entry) (σ : State) → queueOf q (setQueue q l σ) ≡ l
-own-queue Small l σ = refl
-own-queue Main l σ = refl
-
-set-own : (q : Queue) (σ : State) → setQueue q (queueOf q σ) σ ≡ σ
-set-own Small σ = refl
-set-own Main σ = refl
-
-shorter : (b : List Entry) (e : Entry) → length b < length (b ++ (e ∷ []))
-shorter [] e = omega arith
-shorter (x ∷ b) e = let h = shorter b e in omega arith
-
-none : (l : List Entry) → length l ≤ 0 → l ≡ []
-none [] h = refl
-none (x ∷ l) h = absurd (omega arith)
-
 pub draining-start : {z : Shape} {s : List ℕ} (q : Queue) → Keeps z s → Draining z s s q
 draining-start q k = record { keeps = k; state = refl; rest = refl; same = refl }
 
@@ -61,7 +43,7 @@ module _ {z : Shape} {s₀ s : List ℕ} {q : Queue} (c : Draining z s₀ s q) w
     draining-next n =
         record {
           keeps = fell .keeps;
-          state = ap (setQueue q []) (fell .state) ∙ set-same q [] (t .before) (stateIn z s) ∙ c .state;
+          state = ap (setQueue q []) (fell .state) ∙ set-again q [] (t .before) (stateIn z s) ∙ c .state;
           rest = fell .rest ∙ c .rest;
           same = n ∙ c .same;
         }
@@ -69,11 +51,11 @@ module _ {z : Shape} {s₀ s : List ℕ} {q : Queue} (c : Draining z s₀ s q) w
     pub draining-less : left z q s₁ < left z q s
     unfolding left
     draining-less =
-        omega (arith, ap (λ (σ : State). length (queueOf q σ)) (fell .state), ap length (own-queue q (t .before) (stateIn z s)), ap length (seat-queue z s (t .seat)), shorter (t .before) (t .entry))
+        omega (arith, ap (λ (σ : State). length (queueOf q σ)) (fell .state), ap length (own-queue q (t .before) (stateIn z s)), ap length (seat-queue z s (t .seat)), length-append (t .before) (t .entry ∷ []))
 
   pub draining-end : {n : ℕ} → n ≡ length (queueOf q (stateIn z s)) → n ≤ 0 → Drained z s₀ s q
   draining-end e h =
-      let v = none (queueOf q (stateIn z s)) (omega arith) in
+      let v = nil (queueOf q (stateIn z s)) (omega arith) in
       record { becomes = record { keeps = c .keeps; state = sym (set-own q (stateIn z s)) ∙ ap (λ (l : List Entry). setQueue q l (stateIn z s)) v ∙ c .state; rest = c .rest } }
 
 -- ghosts and both queues

@@ -17,6 +17,7 @@ use Rattle.pool.proofs.PoolLaws.{mark-pooled, value-pooled, value-lists, value-
 use Rattle.rules.specs.Parts.{total}
 use Rattle.rules.specs.State.{Entry, Limits, State, Queue, Small, Main, fresh, withFreq, revalue, queueOf, setQueue, setGhosts, pushTo, putAt, residents, one, places}
 use Rattle.rules.proofs.PartsLaws.{length-total}
+use Rattle.rules.proofs.StateLaws.{set-again}
 use Rattle.store.specs.declared.QueueKind.{QueueKind}
 use Rattle.store.specs.Holds.{listNo, ghostsNo, entryAt, keyAt, limitsIn, stateIn, shapeFor, Keeps, Becomes}
 use Rattle.store.specs.Seats.{Seat, Seated, Tail, Grave, Buried, Oldest, Marked, Replaced, Freed, SentBack, Laid, Exhumed, Fronted, CanAdmit, CanHaunt}
@@ -263,10 +264,6 @@ module _ {z : Shape} {s s₁ : List ℕ} (k : Keeps z s) (n : length s₁ ≡ le
       }
 
 -- ---- a value is replaced and then a frequency
-
-set-again : (q : Queue) (l m : List Entry) (σ : State) → setQueue q l (setQueue q m σ) ≡ setQueue q l σ
-set-again Small l m σ = refl
-set-again Main l m σ = refl
 
 module _ {z : Shape} {s s₁ : List ℕ} (k : Keeps z s) {x v : ℕ} (w : Wrote z s s₁ Value x v) where
   -- a seat stays a seat

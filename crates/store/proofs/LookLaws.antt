@@ -28,25 +28,18 @@ use Rattle.store.specs.declared.Spot.the-variants.{Resident, Ghost, Abse
 use Rattle.store.specs.Holds.{listNo, ghostsNo, entryAt, keyAt, stateIn, Keeps, Held}
 use Rattle.store.specs.Seats.{kindOf, Seated, Buried, Oldest, Tail}
 use Rattle.store.specs.Looks.{Sits, Haunts, Lacks, Looks}
-use Rattle.store.proofs.MapLaws.{map-append}
+use Rattle.store.proofs.MapLaws.{map-append, total-map, total-none, total-some}
 use Rattle.store.proofs.ShownLaws.{queue-shown, ghosts-shown}
 
 -- ---- counts over a mapped list
 
 -- the key k stands nowhere in a list none of whose nodes has it
 count-none : {A : Type 0} (g : ℕ → A) (p : A → Bool) (l : List ℕ) → ((x : ℕ) → Among x l → p (g x) ≡ false) → total (λ e. bit (p e)) (map g l) ≡ 0
-count-none g p [] h = refl
-count-none g p (x ∷ l) h =
-    omega (
-      arith,
-      ap bit (h x (record { front = []; back = l; is = refl })),
-      count-none g p l (λ y m. h y (record { front = x ∷ m .front; back = m .back; is = ap (λ t. x ∷ t) (m .is) })),
-    )
+count-none g p l h = total-map (λ e. bit (p e)) g l ∙ total-none (λ x. bit (p (g x))) l (λ x m. ap bit (h x m))
 
 -- and somewhere in one that has a node with it
 count-some : {A : Type 0} (g : ℕ → A) (p : A → Bool) {x : ℕ} {l : List ℕ} → Among x l → p (g x) ≡ true → 1 ≤ total (λ e. bit (p e)) (map g l)
-count-some g p {x} {l} m h =
-    omega (arith, total-mid (λ e. bit (p e)) (map g (m .front)) (g x) (map g (m .back)) (ap (map g) (m .is) ∙ map-append g (m .front) (x ∷ m .back)), ap bit h)
+count-some g p {x} {l} m h = omega (arith, total-map (λ e. bit (p e)) g l, total-some (λ y. bit (p (g y))) m, ap bit h)
 
 -- ---- a key and the lists
 

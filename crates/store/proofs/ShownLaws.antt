@@ -22,7 +22,8 @@ use Rattle.store.proofs.MapLaws.{map-append, map-out, map-at}
 
 -- ---- columns that show the same
 
-abbrev limitsBy : List ℕ → Limits
+-- the limits in a header
+abbrev pub limitsBy : List ℕ → Limits
 limitsBy h = record { capacity = getD h 0 0; smallLimit = getD h 1 0; ghostLimit = getD h 2 0 }
 
 pub limits-aside : {c d : Cols} → Aside c d → limitsIn d ≡ limitsIn c

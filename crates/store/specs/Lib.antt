@@ -1,3 +1,4 @@
 pub mod Holds
 pub mod Seats
 pub mod Looks
+pub mod Created

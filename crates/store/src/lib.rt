@@ -4,13 +4,17 @@ ghost use mathlib.Core.Path.{_≡_};
 ghost use Prim.Native.Nat.{_+_, _≤_, _<_};
 ghost use lib.ListN.{length};
 ghost use Rattle.nodes.specs.Nodes.{Room};
-ghost use Rattle.rules.specs.State.{Queue, queueOf, fresh, pushTo, setGhosts};
+ghost use Rattle.rules.specs.State.{Queue, queueOf, fresh, pushTo, setGhosts, Fine};
+ghost use Rattle.rules.specs.Verdict.{storeBytes};
+ghost use Rattle.sizing.specs.Answers.{limitsOf};
 ghost use mathlib.Core.List.{_∷_};
-ghost use Rattle.store.specs.Holds.{listNo, ghostsNo, stateIn, Keeps, Held, Becomes};
+ghost use Rattle.store.specs.Holds.{listNo, ghostsNo, stateIn, shapeFor, Keeps, Held, Becomes};
 ghost use Rattle.store.specs.Seats.{kindOf, Seated, Tail, Buried, Oldest, Marked, Replaced, Freed, SentBack, Laid, Exhumed, Fronted, CanAdmit, CanHaunt};
 ghost use Rattle.store.specs.Looks.{Looks};
+ghost use Rattle.store.specs.Created.{Limited, Created, Stated};
 use key_index::Found;
 use nodes::Shape;
+use sizing::Limits;
 
 // The two queues of residents.
 pub enum QueueKind {
@@ -179,6 +183,54 @@ pub fn haunt(s: &mut [u8], z: Shape, k: u64)
     ensures { λ _. ⌜ Becomes z (now (s .entry)) (now (s .exit)) (setGhosts (k ∷ stateIn z (now (s .entry)) .ghosts) (stateIn z (now (s .entry)))) ⌝ }
 {
     pool::fill(s, z, lists::GHOSTS, k, 0);
+}
+
+// The numbers of nodes and of buckets that a store has by its limits.
+pub fn shape_of(limits: Limits) -> Shape
+    requires { ⌜ Fine (limitsOf limits) ⌝ }
+    ensures { λ r. ⌜ r ≡ shapeFor (limitsOf limits) ⌝ }
+{
+    let room = (limits.capacity + limits.ghost_limit) as usize;
+    Shape {
+        room,
+        buckets: 2 * room,
+    }
+}
+
+// Writes the limits to the header.
+fn set_limits(s: &mut [u8], z: Shape, limits: Limits)
+    requires { ⌜ Room z (now s) ⌝ }
+    ensures { λ _. ⌜ Limited z (now (s .entry)) (now (s .exit)) (limitsOf limits) ⌝ }
+{
+    nodes::set_head(s, z, CAPACITY, limits.capacity);
+    nodes::set_head(s, z, SMALL_LIMIT, limits.small_limit);
+    nodes::set_head(s, z, GHOST_LIMIT, limits.ghost_limit);
+}
+
+// Creates a store with these limits from any bytes: it holds the empty state.
+pub fn set_up(s: &mut [u8], limits: Limits)
+    requires { ⌜ Fine (limitsOf limits) × (storeBytes ≤ length (now s)) ⌝ }
+    ensures { λ _. ⌜ Created (limitsOf limits) (now (s .entry)) (now (s .exit)) ⌝ }
+{
+    let z = shape_of(limits);
+    set_limits(s, z, limits);
+    pool::set_up(s, z);
+}
+
+// The limits in the header of any bytes. It stands at the same place whatever they are, so the least shape serves to read it.
+pub fn limits_of(s: &[u8]) -> Limits
+    requires { ⌜ storeBytes ≤ length (now s) ⌝ }
+    ensures { λ r. ⌜ Stated (now (s .entry)) (limitsOf r) ⌝ }
+{
+    let least = Shape {
+        room: 1,
+        buckets: 1,
+    };
+    Limits {
+        capacity: nodes::head_of(s, least, CAPACITY),
+        small_limit: nodes::head_of(s, least, SMALL_LIMIT),
+        ghost_limit: nodes::head_of(s, least, GHOST_LIMIT),
+    }
 }
 
 // The entry at a node gets another value and another frequency.

@@ -1,0 +1,18 @@
+-- `soundness::is_cool` meets its contract: the mark first, then the list.
+-- Assumes nothing.
+use borrow.Author.Needs.{needs}
+use Rattle.soundness.proofs.CheckLaws.{mark-cool, small-warm, main-warm, none-warm}
+use Rattle.soundness.proofs.is_cool.Statement.{statement}
+use Rattle.soundness.proofs.is_cool.Tie as tie
+
+pub is-cool-spec : {M : Type 1} → statement M
+is-cool-spec =
+    tie.close
+    (tie.spec
+    (λ c κs. search needs)
+    (λ c. search needs)
+    (λ c. search mark-cool)
+    (λ c κs. search needs)
+    (λ c. search small-warm)
+    (λ c. search main-warm)
+    (λ c. search none-warm))

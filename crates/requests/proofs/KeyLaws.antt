@@ -7,9 +7,10 @@ use native.Mathlib.Omega.{arith}
 use Rattle.nodes.specs.Nodes.{Value, Mark, Reads}
 use Rattle.nodes.specs.declared.Shape.{Shape}
 use Rattle.rules.specs.declared.PhysicalBlock.{PhysicalBlock}
-use Rattle.rules.specs.State.{Entry, State, maxFreq, withFreq, raise, revalue, putAt, place, nowhere, here}
+use Rattle.rules.specs.State.{Entry, State, maxFreq, withFreq, raise, revalue, putAt, keyed, place, nowhere, here}
 use Rattle.rules.specs.Records.{Request, GT, PK, RM, IN, Reply, MI, HI, RE, GO, Outcome, says}
 use Rattle.rules.specs.Requests.{apply, onGet, onPeek, onRemove, onInsert}
+use Rattle.rules.proofs.StateLaws.{place-law}
 use Rattle.rules.proofs.EngineLaws.{place-none}
 use Rattle.store.specs.declared.QueueKind.{QueueKind}
 use Rattle.store.specs.declared.Spot.{Spot}
@@ -17,11 +18,11 @@ use Rattle.store.specs.declared.Spot.the-variants.{Resident, Ghost, Absent}
 use Rattle.store.specs.Holds.{stateIn, Keeps, Held, Becomes}
 use Rattle.store.specs.Seats.{kindOf, Seat, Marked, Replaced, Freed}
 use Rattle.store.specs.Looks.{Sits, Looks}
-use Rattle.store.proofs.KeepsLaws.{seat-node, seat-value, seat-freq}
+use Rattle.store.proofs.KeepsLaws.{seat-node, seat-value, seat-freq, becomes-then}
 use Rattle.wire.specs.declared.Reply.{Reply as Reply·}
 use Rattle.wire.specs.declared.Reply.the-variants.{Miss, Hit, Replaced as Replaced·, Gone}
 use Rattle.requests.specs.declared.Spoken.{Spoken}
-use Rattle.requests.specs.Answers.{spokenOf, alone, Answers}
+use Rattle.requests.specs.Answers.{spokenOf, alone, Answers, Comes}
 
 -- an answer, from what the rules come to
 pub answers : {z : Shape} {s s′ : List ℕ} {q : Request} {a : Spoken} (o : Outcome) → apply (stateIn z s) q ≡ o → Becomes z s s′ (o .state) → spokenOf a ≡ o .replies → Answers z s s′ q a
@@ -31,10 +32,21 @@ answers o e b r = record { becomes = rw e b; replies = rw e r }
 pub becomes-same : {z : Shape} {s : List ℕ} → Keeps z s → Becomes z s s (stateIn z s)
 becomes-same k = record { keeps = k; state = refl; rest = refl }
 
+-- a part of a request: from what the rules come to, and after a change of the state
+module _ {z : Shape} {s : List ℕ} where
+  pub comes-as : {s′ : List ℕ} {o p : Outcome} {l : List Reply} → o ≡ p → Comes z s s′ p l → Comes z s s′ o l
+  comes-as e c = rw e c
+
+  pub comes-then : {s₁ s₂ : List ℕ} {τ : State} {l : List Reply} (f : State → Outcome) → Becomes z s s₁ τ → Comes z s₁ s₂ (f (stateIn z s₁)) l → Comes z s s₂ (f τ) l
+  comes-then f b c = let d = rw (b .state) at c in record { becomes = becomes-then b (d .becomes); replies = d .replies }
+
 -- ---- a key that is not resident
 
 pub record Nowhere (z : Shape) (s : List ℕ) (k : ℕ) : Type 0 where
   pub place-is : place k (stateIn z s) ≡ nowhere
+
+pub nowhere-keyed : {z : Shape} {s : List ℕ} {k : ℕ} → Nowhere z s k → keyed k (stateIn z s) ≡ 0
+nowhere-keyed {z} {s} {k} n = rw (n .place-is) at (place-law k (stateIn z s))
 
 module _ {z : Shape} {s : List ℕ} {k : ℕ} {r : Spot} (l : Looks z s k r) where
   pub nowhere-ghost : {x : ℕ} → r ≡ Ghost x → Nowhere z s k

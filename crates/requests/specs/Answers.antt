@@ -8,8 +8,8 @@ use Rattle.nodes.specs.declared.Shape.{Shape}
 use Rattle.rules.specs.Parts.{popTail}
 use Rattle.rules.specs.State.{Entry, State, Queue, queueOf, setQueue}
 use Rattle.rules.specs.Records.{Request, Reply, MI, EX, Outcome, says}
-use Rattle.rules.specs.Eviction.{wanted, back}
-use Rattle.rules.specs.Requests.{hands, onFirst, firstQueue, apply}
+use Rattle.rules.specs.Eviction.{wanted, back, evictIfFull}
+use Rattle.rules.specs.Requests.{arrive, hands, onFirst, onSecond, firstQueue, apply}
 use Rattle.wire.specs.Wire.{told}
 use Rattle.store.specs.Holds.{stateIn, Becomes}
 use Rattle.wire.specs.declared.Reply.{Reply as Reply·}
@@ -37,11 +37,25 @@ pub record Comes (z : Shape) (s s′ : List ℕ) (o : Outcome) (l : List Reply) 
   pub becomes : Becomes z s s′ (o .state)
   pub replies : l ≡ o .replies
 
+-- ---- insert
+
+-- the pair of k and v, whose key stood nowhere, went to the queue q, after eviction where the cache was full
+pub record Arrives (z : Shape) (s s′ : List ℕ) (q : Queue) (k v : ℕ) (r : Spoken) : Type 0 where
+  pub comes : Comes z s s′ (arrive q k v (evictIfFull (stateIn z s))) (spokenOf r)
+
 -- ---- evict_one
 
 -- what evict_one does to a state that the eviction rule has left
 abbrev pub firstOf : State → Outcome
 firstOf σ = onFirst (firstQueue σ) σ (popTail (queueOf (firstQueue σ) σ))
+
+-- the queue of its first pop
+pub record Starts (z : Shape) (s : List ℕ) (q : Queue) : Type 0 where
+  pub first : firstQueue (stateIn z s) ≡ q
+
+-- its second pop, where the first one handed nothing out
+abbrev pub secondOf : State → Outcome
+secondOf σ = onSecond σ (popTail (σ .main))
 
 -- one of its pops: the last entry goes back to Main, or it is handed out
 abbrev pub popOf : Queue → List Entry → Entry → State → Outcome

@@ -12,7 +12,6 @@ use Rattle.nodes.specs.Nodes.{Key, Value, Mark, Reads}
 use Rattle.nodes.specs.declared.Shape.{Shape}
 use Rattle.rules.specs.declared.GuestBlock.{GuestBlock}
 use Rattle.rules.specs.declared.PhysicalBlock.{PhysicalBlock}
-use Rattle.rules.specs.Parts.{null}
 use Rattle.rules.specs.State.{Entry, State, Queue, Small, Main, fresh, withFreq, cool, queueOf, setQueue, pushTo, residents, Sound}
 use Rattle.rules.specs.Eviction.{Turn, moved, left, above, victim, stays, back, ghosted, step}
 use Rattle.rules.proofs.PartsLaws.{null-none, null-some}

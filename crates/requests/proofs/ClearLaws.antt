@@ -1,8 +1,8 @@
 -- Clear: a queue drained by releasing its tail until it is empty, and the three drains together.
 -- Assumes nothing.
 use mathlib.Core.Path.{_≡_, refl, sym, ap, _∙_}
-use mathlib.Core.List.{List, [], _∷_, _++_, append-nil}
-use Prim.Native.Nat.{ℕ, _+_, _≤_, _<_}
+use mathlib.Core.List.{List, [], _∷_, append-nil}
+use Prim.Native.Nat.{ℕ, _≤_, _<_}
 use native.Mathlib.Omega.{arith}
 use lib.ListN.{length, length-append}
 use Rattle.nodes.specs.Nodes.{Rest, cols}
@@ -14,7 +14,7 @@ use Rattle.rules.proofs.PartsLaws.{nil}
 use Rattle.rules.proofs.StateLaws.{set-again, set-own, own-queue}
 use Rattle.store.specs.Holds.{stateIn, Keeps, Becomes}
 use Rattle.store.specs.Seats.{Tail, Freed}
-use Rattle.store.proofs.KeepsLaws.{seat-queue, becomes-then}
+use Rattle.store.proofs.KeepsLaws.{seat-queue}
 use Rattle.wire.specs.declared.Reply.the-variants.{Cleared}
 use Rattle.ghost_list.specs.Ghosts.{Emptied}
 use Rattle.requests.specs.declared.Spoken.{Spoken}

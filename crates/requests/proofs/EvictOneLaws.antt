@@ -5,21 +5,20 @@ use mathlib.Core.Bool.{Bool, true, false, cond}
 use mathlib.Core.List.{List, [], _∷_, _++_, append-nil}
 use Prim.Native.Nat.{ℕ, _+_, _≤_, _<_}
 use native.Mathlib.Omega.{arith}
-use lib.Dec.{ltb}
 use lib.ListN.{length}
 use borrow.Author.Tests.{lt-ltb, le-ltb}
 use Rattle.nodes.specs.Nodes.{Key, Value, Mark, Reads}
 use Rattle.nodes.specs.declared.Shape.{Shape}
 use Rattle.rules.specs.declared.GuestBlock.{GuestBlock}
 use Rattle.rules.specs.declared.PhysicalBlock.{PhysicalBlock}
-use Rattle.rules.specs.State.{Entry, State, Queue, Small, Main, queueOf, setQueue}
-use Rattle.rules.specs.Records.{EV, Reply, MI, EX, Outcome, says, tellFirst}
+use Rattle.rules.specs.State.{State, Queue, Small, Main, queueOf, setQueue}
+use Rattle.rules.specs.Records.{EV, Reply, MI, EX, says, tellFirst}
 use Rattle.rules.specs.Eviction.{wanted, back, evictIfFull}
-use Rattle.rules.specs.Requests.{apply, onEvictOne, hands, onSecond, firstQueue}
+use Rattle.rules.specs.Requests.{apply, onEvictOne, hands}
 use Rattle.rules.proofs.PartsLaws.{nil, null-none, null-some}
 use Rattle.rules.proofs.EngineLaws.{first-pops, first-empty, second-pops}
 use Rattle.rules.proofs.SoundLaws.{back-sound}
-use Rattle.store.specs.Holds.{stateIn, Held, Becomes}
+use Rattle.store.specs.Holds.{stateIn, Held}
 use Rattle.store.specs.Seats.{Tail, Freed, SentBack}
 use Rattle.store.proofs.KeepsLaws.{seat-key, seat-value, seat-freq, seat-queue}
 use Rattle.wire.specs.declared.Reply.{Reply as Reply·}
@@ -31,7 +30,7 @@ use Rattle.evict.proofs.StepLaws.{went-back}
 use Rattle.requests.specs.declared.Spoken.{Spoken}
 use Rattle.requests.specs.declared.Popped.{Popped}
 use Rattle.requests.specs.declared.Popped.the-variants.{Handed, Back}
-use Rattle.requests.specs.Answers.{spokenOf, Answers, Comes, Starts, firstOf, secondOf, popOf, poppedOf, Pops}
+use Rattle.requests.specs.Answers.{Answers, Comes, Starts, firstOf, secondOf, popOf, poppedOf, Pops}
 use Rattle.requests.proofs.KeyLaws.{answers, becomes-same, comes-as, comes-then}
 
 -- ---- a pop

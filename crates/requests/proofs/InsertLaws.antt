@@ -1,18 +1,17 @@
 -- Insert of a key that is not resident: off the ghosts, room made, and then the pair goes in.
 -- Assumes nothing.
-use mathlib.Core.Path.{_≡_, refl, sym, ap, ap₂, _∙_}
+use mathlib.Core.Path.{_≡_, ap, ap₂, _∙_}
 use mathlib.Core.Bool.{true, false}
 use mathlib.Core.List.{List, [], _∷_, _++_}
-use Prim.Native.Nat.{ℕ, _+_, _≤_, _<_}
+use Prim.Native.Nat.{ℕ, _+_}
 use native.Mathlib.Omega.{arith}
 use lib.Dec.{eqb}
 use lib.ListN.{length}
 use Rattle.nodes.specs.declared.Shape.{Shape}
-use Rattle.rules.specs.Parts.{splitBy}
 use Rattle.rules.specs.State.{Limits, State, Queue, Small, Main, fresh, pushTo, setGhosts, residents, places}
-use Rattle.rules.specs.Records.{IN, Reply, NW, Outcome}
+use Rattle.rules.specs.Records.{IN, NW}
 use Rattle.rules.specs.Ghosts.{Removed, without, removeGhost}
-use Rattle.rules.specs.Eviction.{Evicted, evictIfFull}
+use Rattle.rules.specs.Eviction.{evictIfFull}
 use Rattle.rules.specs.Requests.{apply, onInsert, onNew, admits, arrive}
 use Rattle.rules.proofs.EngineLaws.{split-none}
 use Rattle.rules.proofs.SoundLaws.{Kept, kept-sound, roomy-law, roomy-kept, roomy-less, Unghosted, remove-law}

@@ -1,13 +1,13 @@
 -- The requests that name a key: each answer of the rules from what the lookup found and what was read and moved.
 -- Assumes nothing.
-use mathlib.Core.Path.{_≡_, refl, sym, ap, ap₂, _∙_, subst}
-use mathlib.Core.List.{List, [], _∷_, _++_}
-use Prim.Native.Nat.{ℕ, _+_, _<_, _≤_, min}
+use mathlib.Core.Path.{_≡_, refl, ap, _∙_, subst}
+use mathlib.Core.List.{List, [], _∷_}
+use Prim.Native.Nat.{ℕ, _+_, _<_, min}
 use native.Mathlib.Omega.{arith}
 use Rattle.nodes.specs.Nodes.{Value, Mark, Reads}
 use Rattle.nodes.specs.declared.Shape.{Shape}
 use Rattle.rules.specs.declared.PhysicalBlock.{PhysicalBlock}
-use Rattle.rules.specs.State.{Entry, State, maxFreq, withFreq, raise, revalue, putAt, keyed, place, nowhere, here}
+use Rattle.rules.specs.State.{State, maxFreq, withFreq, raise, revalue, putAt, keyed, place, nowhere}
 use Rattle.rules.specs.Records.{Request, GT, PK, RM, IN, Reply, MI, HI, RE, GO, Outcome, says}
 use Rattle.rules.specs.Requests.{apply, onGet, onPeek, onRemove, onInsert}
 use Rattle.rules.proofs.StateLaws.{place-law}
@@ -16,10 +16,9 @@ use Rattle.store.specs.declared.QueueKind.{QueueKind}
 use Rattle.store.specs.declared.Spot.{Spot}
 use Rattle.store.specs.declared.Spot.the-variants.{Resident, Ghost, Absent}
 use Rattle.store.specs.Holds.{stateIn, Keeps, Held, Becomes}
-use Rattle.store.specs.Seats.{kindOf, Seat, Marked, Replaced, Freed}
-use Rattle.store.specs.Looks.{Sits, Looks}
+use Rattle.store.specs.Seats.{kindOf, Marked, Replaced, Freed}
+use Rattle.store.specs.Looks.{Looks}
 use Rattle.store.proofs.KeepsLaws.{seat-node, seat-value, seat-freq, becomes-then}
-use Rattle.wire.specs.declared.Reply.{Reply as Reply·}
 use Rattle.wire.specs.declared.Reply.the-variants.{Miss, Hit, Replaced as Replaced·, Gone}
 use Rattle.requests.specs.declared.Spoken.{Spoken}
 use Rattle.requests.specs.Answers.{spokenOf, alone, Answers, Comes}

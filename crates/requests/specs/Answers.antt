@@ -61,10 +61,12 @@ secondOf σ = onSecond σ (popTail (σ .main))
 abbrev pub popOf : Queue → List Entry → Entry → State → Outcome
 popOf q b e σ = cond (wanted e) (says (back q b e σ) MI) (hands q b e σ)
 
+-- what such a pop says
 abbrev pub poppedOf : Popped → Reply
 poppedOf (Handed k v) = EX (k .0) (v .0)
 poppedOf Back = MI
 
+-- the last entry of the queue q was popped so
 pub record Pops (z : Shape) (s s′ : List ℕ) (q : Queue) (r : Popped) : Type 0 where
   pub before : List Entry
   pub entry : Entry

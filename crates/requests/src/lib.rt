@@ -198,11 +198,9 @@ pub fn evict_one(s: &mut [u8], z: Shape) -> Spoken
     ensures { λ r. ⌜ Answers z (now (s .entry)) (now (s .exit)) Request.EV r ⌝ }
 {
     let evicted = evict::evict_if_full(s, z);
+    let pushed = evicted.pushed;
     let closing = first(s, z);
-    Spoken {
-        pushed: evicted.pushed,
-        closing,
-    }
+    Spoken { pushed, closing }
 }
 
 // Takes all entries out of a queue.

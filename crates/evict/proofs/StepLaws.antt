@@ -12,9 +12,9 @@ use Rattle.nodes.specs.Nodes.{Key, Value, Mark, Reads}
 use Rattle.nodes.specs.declared.Shape.{Shape}
 use Rattle.rules.specs.declared.GuestBlock.{GuestBlock}
 use Rattle.rules.specs.declared.PhysicalBlock.{PhysicalBlock}
-use Rattle.rules.specs.Parts.{null}
 use Rattle.rules.specs.State.{Entry, State, Queue, Small, Main, fresh, withFreq, cool, queueOf, setQueue, pushTo, residents, Sound}
 use Rattle.rules.specs.Eviction.{Turn, moved, left, above, victim, stays, back, ghosted, step}
+use Rattle.rules.proofs.PartsLaws.{null-none, null-some}
 use Rattle.rules.proofs.EngineLaws.{step-moves, step-leaves}
 use Rattle.rules.proofs.EvictionLaws.{idle-law}
 use Rattle.rules.proofs.SoundLaws.{moved-sound, left-sound}
@@ -30,14 +30,6 @@ use Rattle.evict.specs.declared.Turn.the-variants.{Moved, Left}
 use Rattle.evict.specs.Evicts.{coolTo, turnOf, Picks, Steps, Leaves}
 
 -- ---- the queue that is popped
-
-null-some : (l : List Entry) → (length l ≡ 0 → ⊥) → null l ≡ false
-null-some [] h = absurd (h refl)
-null-some (x ∷ l) h = refl
-
-null-none : (l : List Entry) → length l ≡ 0 → null l ≡ true
-null-none [] h = refl
-null-none (x ∷ l) h = absurd (omega arith)
 
 module _ {z : Shape} {s : List ℕ} {limit small : ℕ} (e : limit ≡ stateIn z s .limits .smallLimit) (f : small ≡ length (stateIn z s .small)) where
   pub picks-above : limit < small → Picks z s Small
@@ -91,6 +83,19 @@ cool-is Main e = refl
 pub tail-node : {z : Shape} {s : List ℕ} → Held z s → {q : Queue} {x : ℕ} → Tail z s q x → x < z .room + 4
 tail-node h t = omega (arith, seat-node (h .keeps) (t .seat))
 
+-- an entry that was sent back with its frequency cooled went back as the rules say
+pub went-back : {z : Shape} {s s′ : List ℕ} {q : Queue} {x f : ℕ} (t : Tail z s q x) → Reads z s Mark x f → SentBack z s s′ q x (coolTo q f) → Becomes z s s′ (back q (t .before) (t .entry) (stateIn z s))
+went-back {z} {s} {s′} {q} {x} {f} t g b =
+    let e : Entry = t .entry in
+    let σ : State = stateIn z s in
+    let r = b .of (t .before) e [] (t .seat) in
+    record {
+      keeps = r .keeps;
+      state = r .state
+          ∙ ap₂ (λ (y : Entry) (l : List Entry). pushTo Main y (setQueue q l σ)) (ap (λ (y : ℕ). withFreq (coolTo q y) e) (seat-freq (t .seat) g) ∙ cool-is q e) (append-nil (t .before));
+      rest = r .rest;
+    }
+
 module _ {z : Shape} {s : List ℕ} (h : Held z s) (q : QueueKind) (v : Picks z s (kindOf q)) {x : ℕ} (t : Tail z s (kindOf q) x) {f : ℕ} (g : Reads z s Mark x f) where
   freq-is : f ≡ t .entry .freq
   freq-is = seat-freq (t .seat) g
@@ -101,12 +106,10 @@ module _ {z : Shape} {s : List ℕ} (h : Held z s) (q : QueueKind) (v : Picks z 
       let σ : State = stateIn z s in
       let n : step σ ≡ moved (kindOf q) (back (kindOf q) (t .before) e σ) =
       step-moves σ (kindOf q) (t .before) e (v .picked) (seat-queue z s (t .seat)) (lt-ltb 0 (e .freq) (omega (arith, freq-is))) in
-      let r = b .of (t .before) e [] (t .seat) in
-      let k : pushTo Main (withFreq (coolTo (kindOf q) f) e) (setQueue (kindOf q) (t .before ++ []) σ) ≡ back (kindOf q) (t .before) e σ =
-      ap₂ (λ (y : Entry) (l : List Entry). pushTo Main y (setQueue (kindOf q) l σ)) (ap (λ (y : ℕ). withFreq (coolTo (kindOf q) y) e) freq-is ∙ cool-is (kindOf q) e) (append-nil (t .before)) in
+      let r = went-back t g b in
       record {
-        held = record { keeps = r .keeps; sound = rw (r .state ∙ k) (moved-sound n (h .sound)) };
-        turn = n ∙ ap (moved (kindOf q)) (sym (r .state ∙ k));
+        held = record { keeps = r .keeps; sound = rw (r .state) (moved-sound n (h .sound)) };
+        turn = n ∙ ap (moved (kindOf q)) (sym (r .state));
         rest = r .rest;
       }
 

@@ -16,6 +16,7 @@ use Rattle.rules.specs.Parts.{bit, total, Pop, popped, popTail, Split, missing,
 use Rattle.rules.specs.State.{Entry, State, Queue, Small, keyIs, queueOf, setQueue, setGhosts, overAll, residents, keyed, places, Sound}
 use Rattle.rules.specs.Ghosts.{Given, keeps, dropped, inFront, evictLru, recordGhost, Removed, without, removeGhost}
 use Rattle.rules.specs.Eviction.{ghosted}
+use Rattle.rules.proofs.PartsLaws.{nil}
 use Rattle.rules.proofs.StateLaws.{put-total}
 use Rattle.rules.proofs.GhostsLaws.{lru-total, lru-less, record-zero, record-there, record-room, record-full, record-over}
 use Rattle.rules.proofs.EngineLaws.{pop-is, split-none}
@@ -38,10 +39,6 @@ in-queue q σ b e a h f = omega (arith, put-total f q b e [] a σ h)
 
 same-ghosts : (z : Shape) (s : List ℕ) → Keeps z s → Becomes z s s (setGhosts (stateIn z s .ghosts) (stateIn z s))
 same-ghosts z s k = record { keeps = k; state = refl; rest = refl }
-
-nil : {A : Type 0} (l : List A) → length l ≡ 0 → l ≡ []
-nil [] h = refl
-nil (x ∷ l) h = absurd (omega arith)
 
 -- ---- evict_lru
 

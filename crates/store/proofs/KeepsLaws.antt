@@ -10,18 +10,19 @@ use Rattle.nodes.specs.declared.Shape.{Shape}
 use Rattle.nodes.proofs.NodesLaws.{room-kept}
 use Rattle.nodes.proofs.OverLaws.{over-at}
 use Rattle.lists.specs.Ring.{Among, Last}
-use Rattle.lists.proofs.ListsLaws.{lists-tail}
+use Rattle.lists.proofs.ListsLaws.{lists-tail, lists-once}
 use Rattle.pool.specs.Carries.{Carries, listsOf, Pooled, Aside, Alike, Kind, CanMove, Moved, CanRelease, Released, CanFill, Filled}
 use Rattle.pool.proofs.CarriesLaws.{carries-view}
-use Rattle.pool.proofs.PoolLaws.{mark-pooled, value-pooled, mark-lists, pooled-length, pooled-tail, pooled-node, can-fill}
+use Rattle.pool.proofs.PoolLaws.{mark-pooled, value-pooled, value-lists, value-aside, pooled-length, pooled-node, can-fill}
 use Rattle.rules.specs.Parts.{total}
 use Rattle.rules.specs.State.{Entry, Limits, State, Queue, Small, Main, fresh, withFreq, revalue, queueOf, setQueue, setGhosts, pushTo, putAt, residents, one, places}
 use Rattle.rules.proofs.PartsLaws.{length-total}
+use Rattle.rules.proofs.StateLaws.{set-again}
 use Rattle.store.specs.declared.QueueKind.{QueueKind}
 use Rattle.store.specs.Holds.{listNo, ghostsNo, entryAt, keyAt, limitsIn, stateIn, shapeFor, Keeps, Becomes}
 use Rattle.store.specs.Seats.{Seat, Seated, Tail, Grave, Buried, Oldest, Marked, Replaced, Freed, SentBack, Laid, Exhumed, Fronted, CanAdmit, CanHaunt}
-use Rattle.store.proofs.MapLaws.{map-append, map-length}
-use Rattle.store.proofs.ShownLaws.{limits-aside, queue-shown, ghosts-shown, moved-main, moved-down, moved-ghost, released-queue, released-ghost, filled-queue, filled-ghost, marked, valued}
+use Rattle.store.proofs.MapLaws.{map-append, map-length, map-out}
+use Rattle.store.proofs.ShownLaws.{limits-aside, queue-shown, ghosts-shown, moved-main, moved-down, moved-ghost, released-queue, released-ghost, filled-queue, filled-ghost, marked, valued, valued-other, valued-own}
 use Rattle.store.proofs.LookLaws.{places-miss}
 
 -- ---- lists of residents and of ghosts
@@ -260,4 +261,37 @@ module _ {z : Shape} {s s₁ : List ℕ} (k : Keeps z s) (n : length s₁ ≡ le
               state = g .state ∙ ap (setQueue Main (withFreq v y ∷ queueOf Main (setQueue q (b ++ a) (stateIn z s)))) (f .state);
               rest = g .rest;
             });
+      }
+
+-- ---- a value is replaced and then a frequency
+
+module _ {z : Shape} {s s₁ : List ℕ} (k : Keeps z s) {x v : ℕ} (w : Wrote z s s₁ Value x v) where
+  -- a seat stays a seat
+  seat-valued : {q : Queue} {b : List Entry} {e : Entry} {a : List Entry} → Seat z s q x b e a → Seat z s₁ q x b (revalue v e) a
+  seat-valued {q} h =
+      let o = lists-once (k .pooled .carries .lists) (kind q .below) (h .front) x (h .back) (h .is) in
+      record {
+        front = h .front;
+        back = h .back;
+        is = ap (λ (f : ℕ → List ℕ). f (listNo q)) (value-lists w) ∙ h .is;
+        before = map-out (entryAt (cols z s)) (entryAt (cols z s₁)) x (h .front) (o .0) (valued-other w) ∙ h .before;
+        here = valued-own w (seat-node k h) ∙ ap (revalue v) (h .here);
+        after = map-out (entryAt (cols z s)) (entryAt (cols z s₁)) x (h .back) (o .1) (valued-other w) ∙ h .after;
+      }
+
+  seat-becomes : length s₁ ≡ length s → {q : Queue} {b : List Entry} {e : Entry} {a : List Entry} → Seat z s q x b e a → Becomes z s s₁ (putAt q b (revalue v e ∷ []) a (stateIn z s))
+  seat-becomes n {q} {b} {e} {a} h =
+      becomes k n (value-pooled (k .pooled) w) (value-aside w)
+      (valued z s s₁ (k .pooled) q (h .front) x (h .back) (h .is) v w
+      ∙ ap (λ (y : Entry). putAt q (map (entryAt (cols z s)) (h .front)) (revalue v y ∷ []) (map (entryAt (cols z s)) (h .back)) (stateIn z s)) (h .here)
+      ∙ ap₂ (λ l r. putAt q l (revalue v e ∷ []) r (stateIn z s)) (h .before) (h .after))
+
+  pub replaced : length s₁ ≡ length s → {s₂ : List ℕ} → length s₂ ≡ length s₁ → {n : ℕ} → Wrote z s₁ s₂ Mark x n → Replaced z s s₂ x v n
+  replaced l {s₂} l₁ {n} m =
+      record {
+        of = λ q b e a h.
+            let f = seat-becomes l h in
+            let g = marks (f .keeps) l₁ m .of q b (revalue v e) a (seat-valued h) in
+            let t : List Entry = b ++ (revalue v (withFreq n e) ∷ a) in
+            becomes-then f (record { keeps = g .keeps; state = g .state ∙ ap (setQueue q t) (f .state) ∙ set-again q t (b ++ (revalue v e ∷ a)) (stateIn z s); rest = g .rest });
       }

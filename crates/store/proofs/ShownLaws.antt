@@ -231,6 +231,23 @@ touched z s s′ p Main a x b h n t = λ i.
       ghosts = touched-ghosts z s s′ p Main a x b h n t i;
     }
 
+-- a value is written: its own entry has it, and the others are as they were
+module _ {z : Shape} {s s′ : List ℕ} {x v : ℕ} (w : Wrote z s s′ Value x v) where
+  value-keys : cols z s′ Key ≡ cols z s Key
+  value-keys = rw (w .columns, over-at)
+
+  value-marks : cols z s′ Mark ≡ cols z s Mark
+  value-marks = rw (w .columns, over-at)
+
+  value-values : cols z s′ Value ≡ set (cols z s Value) x v
+  value-values = rw (w .columns, over-at)
+
+  pub valued-other : (y : ℕ) → y ≢ x → entryAt (cols z s′) y ≡ entryAt (cols z s) y
+  valued-other y n = rw (value-keys, value-marks, value-values, getD-set-other (cols z s Value) x y v 0 n)
+
+  pub valued-own : x < z .room → entryAt (cols z s′) x ≡ revalue v (entryAt (cols z s) x)
+  valued-own l = rw (value-keys, value-marks, value-values, getD-set-same (cols z s Value) x v 0 (rw (length-cols z s Value refl) (omega arith)))
+
 module _ (z : Shape) (s s′ : List ℕ) (p : Pooled z s) (q : Queue) (a : List ℕ) (x : ℕ) (b : List ℕ) (h : listsOf z (cols z s) (listNo q) ≡ a ++ x ∷ b) (v : ℕ) where
   abbrev e₁ : Entry
   e₁ = entryAt (cols z s) x
@@ -255,15 +272,5 @@ module _ (z : Shape) (s s′ : List ℕ) (p : Pooled z s) (q : Queue) (a : List 
 
   pub valued : Wrote z s s′ Value x v → stateIn z s′ ≡ putAt q (map (entryAt (cols z s)) a) (revalue v e₁ ∷ []) (map (entryAt (cols z s)) b) (stateIn z s)
   valued w =
-      let l = below in
-      let k : cols z s′ Key ≡ cols z s Key = rw (w .columns, over-at) in
-      let u : cols z s′ Mark ≡ cols z s Mark = rw (w .columns, over-at) in
-      let m : cols z s′ Value ≡ set (cols z s Value) x v = rw (w .columns, over-at) in
       touched z s s′ p q a x b h (revalue v e₁)
-      (record {
-        links-kept = rw (w .columns, over-at);
-        heads-kept = rw (w .columns, over-at);
-        keys-kept = k;
-        others = λ y n. rw (k, u, m, getD-set-other (cols z s Value) x y v 0 n);
-        own = rw (k, u, m, getD-set-same (cols z s Value) x v 0 (rw (length-cols z s Value refl) (omega arith)));
-      })
+      (record { links-kept = rw (w .columns, over-at); heads-kept = rw (w .columns, over-at); keys-kept = rw (w .columns, over-at); others = valued-other w; own = valued-own w below })

@@ -232,3 +232,12 @@ pub fn limits_of(s: &[u8]) -> Limits
         ghost_limit: nodes::head_of(s, least, GHOST_LIMIT),
     }
 }
+
+// The entry at a node gets another value and another frequency.
+pub fn replace(s: &mut [u8], z: Shape, x: usize, v: u64, n: usize)
+    requires { ⌜ Keeps z (now s) × (x < z .room) × (n < 256) ⌝ }
+    ensures { λ _. ⌜ Replaced z (now (s .entry)) (now (s .exit)) x v n ⌝ }
+{
+    nodes::set_value(s, z, x, v);
+    nodes::set_mark(s, z, x, n);
+}

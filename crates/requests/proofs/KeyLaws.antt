@@ -1,0 +1,120 @@
+-- The requests that name a key: each answer of the rules from what the lookup found and what was read and moved.
+-- Assumes nothing.
+use mathlib.Core.Path.{_≡_, refl, ap, _∙_, subst}
+use mathlib.Core.List.{List, [], _∷_}
+use Prim.Native.Nat.{ℕ, _+_, _<_, min}
+use native.Mathlib.Omega.{arith}
+use Rattle.nodes.specs.Nodes.{Value, Mark, Reads}
+use Rattle.nodes.specs.declared.Shape.{Shape}
+use Rattle.rules.specs.declared.PhysicalBlock.{PhysicalBlock}
+use Rattle.rules.specs.State.{State, maxFreq, withFreq, raise, revalue, putAt, keyed, place, nowhere}
+use Rattle.rules.specs.Records.{Request, GT, PK, RM, IN, Reply, MI, HI, RE, GO, Outcome, says}
+use Rattle.rules.specs.Requests.{apply, onGet, onPeek, onRemove, onInsert}
+use Rattle.rules.proofs.StateLaws.{place-law}
+use Rattle.rules.proofs.EngineLaws.{place-none}
+use Rattle.store.specs.declared.QueueKind.{QueueKind}
+use Rattle.store.specs.declared.Spot.{Spot}
+use Rattle.store.specs.declared.Spot.the-variants.{Resident, Ghost, Absent}
+use Rattle.store.specs.Holds.{stateIn, Keeps, Held, Becomes}
+use Rattle.store.specs.Seats.{kindOf, Marked, Replaced, Freed}
+use Rattle.store.specs.Looks.{Looks}
+use Rattle.store.proofs.KeepsLaws.{seat-node, seat-value, seat-freq, becomes-then}
+use Rattle.wire.specs.declared.Reply.the-variants.{Miss, Hit, Replaced as Replaced·, Gone}
+use Rattle.requests.specs.declared.Spoken.{Spoken}
+use Rattle.requests.specs.Answers.{spokenOf, alone, Answers, Comes}
+
+-- an answer, from what the rules come to
+pub answers : {z : Shape} {s s′ : List ℕ} {q : Request} {a : Spoken} (o : Outcome) → apply (stateIn z s) q ≡ o → Becomes z s s′ (o .state) → spokenOf a ≡ o .replies → Answers z s s′ q a
+answers o e b r = record { becomes = rw e b; replies = rw e r }
+
+-- nothing changes
+pub becomes-same : {z : Shape} {s : List ℕ} → Keeps z s → Becomes z s s (stateIn z s)
+becomes-same k = record { keeps = k; state = refl; rest = refl }
+
+-- a part of a request: from what the rules come to, and after a change of the state
+module _ {z : Shape} {s : List ℕ} where
+  pub comes-as : {s′ : List ℕ} {o p : Outcome} {l : List Reply} → o ≡ p → Comes z s s′ p l → Comes z s s′ o l
+  comes-as e c = rw e c
+
+  pub comes-then : {s₁ s₂ : List ℕ} {τ : State} {l : List Reply} (f : State → Outcome) → Becomes z s s₁ τ → Comes z s₁ s₂ (f (stateIn z s₁)) l → Comes z s s₂ (f τ) l
+  comes-then f b c = let d = rw (b .state) at c in record { becomes = becomes-then b (d .becomes); replies = d .replies }
+
+-- ---- a key that is not resident
+
+pub record Nowhere (z : Shape) (s : List ℕ) (k : ℕ) : Type 0 where
+  pub place-is : place k (stateIn z s) ≡ nowhere
+
+pub nowhere-keyed : {z : Shape} {s : List ℕ} {k : ℕ} → Nowhere z s k → keyed k (stateIn z s) ≡ 0
+nowhere-keyed {z} {s} {k} n = rw (n .place-is) at (place-law k (stateIn z s))
+
+module _ {z : Shape} {s : List ℕ} {k : ℕ} {r : Spot} (l : Looks z s k r) where
+  pub nowhere-ghost : {x : ℕ} → r ≡ Ghost x → Nowhere z s k
+  nowhere-ghost {x} e = record { place-is = l .haunt x e .place-is }
+
+  pub nowhere-absent : r ≡ Absent → Nowhere z s k
+  nowhere-absent e = record { place-is = place-none k (stateIn z s) (omega (arith, l .absent e .none)) }
+
+module _ {z : Shape} {s : List ℕ} {k : ℕ} (h : Held z s) (n : Nowhere z s k) {a : Spoken} (w : a ≡ alone Miss) where
+  missed : (q : Request) → apply (stateIn z s) q ≡ says (stateIn z s) MI → Answers z s s q a
+  missed q e = answers (says (stateIn z s) MI) e (becomes-same (h .keeps)) (ap spokenOf w)
+
+  pub get-miss : Answers z s s (GT k) a
+  unfolding apply onGet
+  get-miss = missed (GT k) (ap (onGet (stateIn z s)) (n .place-is))
+
+  pub peek-miss : Answers z s s (PK k) a
+  unfolding apply onPeek
+  peek-miss = missed (PK k) (ap (onPeek (stateIn z s)) (n .place-is))
+
+  pub remove-miss : Answers z s s (RM k) a
+  unfolding apply onRemove
+  remove-miss = missed (RM k) (ap (onRemove (stateIn z s)) (n .place-is))
+
+-- ---- a resident key
+
+module _ {z : Shape} {s : List ℕ} {k : ℕ} {r : Spot} (l : Looks z s k r) {q : QueueKind} {x : ℕ} (e : r ≡ Resident q x) where
+  pub resident-node : Held z s → x < z .room
+  resident-node h = seat-node (h .keeps) (l .resident q x e .seat)
+
+  pub resident-reach : Held z s → x < z .room + 4
+  resident-reach h = omega (arith, resident-node h)
+
+  -- the raised frequency is that of the rules
+  frequency : {m n : ℕ} → Reads z s Mark x m → n ≡ min maxFreq (m + 1) → n ≡ min maxFreq (l .resident q x e .entry .freq + 1)
+  frequency g w = w ∙ ap (λ y. min maxFreq (y + 1)) (seat-freq (l .resident q x e .seat) g)
+
+  module _ {v : ℕ} (g : Reads z s Value x v) (b : PhysicalBlock) (i : b .0 ≡ v) where
+    old : b .0 ≡ l .resident q x e .entry .value
+    old = i ∙ seat-value (l .resident q x e .seat) g
+
+    pub get-hit : {s′ : List ℕ} {m n : ℕ} → Reads z s Mark x m → n ≡ min maxFreq (m + 1) → Marked z s s′ x n → {a : Spoken} → a ≡ alone (Hit b) → Answers z s s′ (GT k) a
+    unfolding apply onGet
+    get-hit {s′} f w c d =
+        let t = l .resident q x e in
+        answers (says (putAt (kindOf q) (t .before) (raise (t .entry) ∷ []) (t .after) (stateIn z s)) (HI (t .entry .value))) (ap (onGet (stateIn z s)) (t .place-is))
+        (subst (λ y. Becomes z s s′ (putAt (kindOf q) (t .before) (withFreq y (t .entry) ∷ []) (t .after) (stateIn z s))) (frequency f w)
+        (c .of (kindOf q) (t .before) (t .entry) (t .after) (t .seat)))
+        (ap spokenOf d ∙ ap (λ y. HI y ∷ []) old)
+
+    pub peek-hit : Held z s → {a : Spoken} → a ≡ alone (Hit b) → Answers z s s (PK k) a
+    unfolding apply onPeek
+    peek-hit h d =
+        let t = l .resident q x e in
+        answers (says (stateIn z s) (HI (t .entry .value))) (ap (onPeek (stateIn z s)) (t .place-is)) (becomes-same (h .keeps)) (ap spokenOf d ∙ ap (λ y. HI y ∷ []) old)
+
+    pub remove-gone : {s′ : List ℕ} → Freed z s s′ (kindOf q) x → {a : Spoken} → a ≡ alone (Gone b) → Answers z s s′ (RM k) a
+    unfolding apply onRemove
+    remove-gone c d =
+        let t = l .resident q x e in
+        answers (says (putAt (kindOf q) (t .before) [] (t .after) (stateIn z s)) (GO (t .entry .value))) (ap (onRemove (stateIn z s)) (t .place-is))
+        (c .of (t .before) (t .entry) (t .after) (t .seat))
+        (ap spokenOf d ∙ ap (λ y. GO y ∷ []) old)
+
+    pub insert-over : {s′ : List ℕ} {m n u : ℕ} → Reads z s Mark x m → n ≡ min maxFreq (m + 1) → Replaced z s s′ x u n → {a : Spoken} → a ≡ alone (Replaced· b) → Answers z s s′ (IN k u) a
+    unfolding apply onInsert
+    insert-over {s′} {u = u} f w c d =
+        let t = l .resident q x e in
+        answers (says (putAt (kindOf q) (t .before) (revalue u (raise (t .entry)) ∷ []) (t .after) (stateIn z s)) (RE (t .entry .value))) (ap (onInsert k u (stateIn z s)) (t .place-is))
+        (subst (λ y. Becomes z s s′ (putAt (kindOf q) (t .before) (revalue u (withFreq y (t .entry)) ∷ []) (t .after) (stateIn z s))) (frequency f w)
+        (c .of (kindOf q) (t .before) (t .entry) (t .after) (t .seat)))
+        (ap spokenOf d ∙ ap (λ y. RE y ∷ []) old)

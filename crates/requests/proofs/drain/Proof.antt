@@ -1,0 +1,29 @@
+-- `requests::drain` meets its contract.
+-- Assumes nothing.
+use borrow.Author.Needs.{needs}
+use Rattle.store.proofs.LookLaws.{tail-seated}
+use Rattle.requests.proofs.ClearLaws.{Draining, left, draining-start, draining-next, draining-less, draining-end}
+use Rattle.store.specs.Seats.{kindOf}
+use Rattle.requests.proofs.drain.Statement.{statement}
+use Rattle.requests.proofs.drain.Tie as tie
+
+abbrev Inv-loop : tie.InvT-loop
+Inv-loop s₀ z q s = Draining z s₀ s (kindOf q)
+
+abbrev μ-loop : tie.MeasureT-loop
+μ-loop s₀ z q s = left z (kindOf q) s
+
+pub drain-spec : {M : Type 1} → statement M
+drain-spec =
+    tie.close
+    (tie.spec
+    Inv-loop
+    μ-loop
+    (λ c. search draining-start)
+    (λ c κs. search needs)
+    (λ c κs. search needs)
+    (λ c κs. (search needs, search tail-seated))
+    (λ c. search draining-less)
+    (λ c. search draining-next)
+    (λ c. search needs)
+    (λ c. search draining-end))

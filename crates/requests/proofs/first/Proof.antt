@@ -1,0 +1,23 @@
+-- `requests::first` meets its contract.
+-- Assumes nothing.
+use borrow.Author.Needs.{needs}
+use Rattle.requests.proofs.EvictOneLaws.{first-none, first-out, first-back, back-held, back-some}
+use Rattle.requests.proofs.first.Statement.{statement}
+use Rattle.requests.proofs.first.Tie as tie
+
+pub first-spec : {M : Type 1} → statement M
+first-spec =
+    tie.close
+    (tie.spec
+    (λ c κs. search needs)
+    (λ c κs. search needs)
+    (λ c. search needs)
+    (λ c. search first-none)
+    (λ c κs. search needs)
+    (λ c. search needs)
+    (λ c. search needs)
+    (λ c κs. (search back-held, search back-some))
+    (λ c. search needs)
+    (λ c. search first-out)
+    (λ c. search needs)
+    (λ c. search first-back))

@@ -1,0 +1,241 @@
+// The requests on the store (01, "The rules"; port order 8): lookup, peek, remove, insert, evict_one and clear, each with the replies that the rules
+// give it. A key is looked up once a request. No request fails on a store that holds a sound state, and no number stands for "none".
+ghost use mathlib.Core.Path.{_≡_};
+ghost use mathlib.Core.List.{[], _∷_};
+ghost use Prim.Native.Nat.{_+_, _≤_, _<_, min};
+ghost use lib.ListN.{length};
+ghost use Rattle.rules.specs.State.{maxFreq, queueOf};
+ghost use Rattle.rules.specs.Records.{Request};
+ghost use Rattle.store.specs.Holds.{stateIn, Keeps, Held};
+ghost use Rattle.store.specs.Seats.{kindOf};
+ghost use Rattle.store.specs.Looks.{Lacks};
+ghost use Rattle.wire.specs.Wire.{asked, told};
+ghost use Rattle.requests.specs.Answers.{alone, Answers, Comes, Arrives, Starts, firstOf, secondOf, Pops, Drained};
+use evict::Pushed;
+use nodes::Shape;
+use rules::GuestBlock;
+use rules::PhysicalBlock;
+use store::QueueKind;
+use store::Spot;
+use wire::Reply;
+
+// What a request answers: the pair that eviction pushed out, and the closing reply.
+pub struct Spoken {
+    pub pushed: Pushed,
+    pub closing: Reply,
+}
+
+// What a pop of evict_one does: the pair is handed out, or it goes back to Main's head.
+enum Popped {
+    Handed(GuestBlock, PhysicalBlock),
+    Back,
+}
+
+// The answer where no pair was pushed out.
+fn alone(closing: Reply) -> Spoken
+    ensures { λ r. ⌜ r ≡ alone closing ⌝ }
+{
+    Spoken {
+        pushed: Pushed::Nothing,
+        closing,
+    }
+}
+
+// A frequency raised: one more, at most the highest.
+fn raised(freq: usize) -> usize
+    ensures { λ r. ⌜ r ≡ min maxFreq (freq + 1) ⌝ }
+    ensures { λ r. ⌜ r < 256 ⌝ }
+{
+    if freq < rules::MAX_FREQ as usize {
+        return freq + 1;
+    }
+    rules::MAX_FREQ as usize
+}
+
+// Lookup: the value, and the frequency raised. No list is reordered.
+pub fn get(s: &mut [u8], z: Shape, k: GuestBlock) -> Spoken
+    requires { ⌜ Held z (now s) ⌝ }
+    ensures { λ r. ⌜ Answers z (now (s .entry)) (now (s .exit)) (Request.GT (k .0)) r ⌝ }
+{
+    let spot = store::look(s, z, k.0);
+    match spot {
+        Spot::Resident(_, x) => {
+            let v = nodes::value_of(s, z, x);
+            let n = raised(nodes::mark_of(s, z, x));
+            store::set_freq(s, z, x, n);
+            alone(Reply::Hit(PhysicalBlock(v)))
+        }
+        Spot::Ghost(_) => alone(Reply::Miss),
+        Spot::Absent => alone(Reply::Miss),
+    }
+}
+
+// Peek: the value, and no change at all.
+pub fn peek(s: &[u8], z: Shape, k: GuestBlock) -> Spoken
+    requires { ⌜ Held z (now s) ⌝ }
+    ensures { λ r. ⌜ Answers z (now (s .entry)) (now (s .entry)) (Request.PK (k .0)) r ⌝ }
+{
+    let spot = store::look(s, z, k.0);
+    match spot {
+        Spot::Resident(_, x) => alone(Reply::Hit(PhysicalBlock(nodes::value_of(s, z, x)))),
+        Spot::Ghost(_) => alone(Reply::Miss),
+        Spot::Absent => alone(Reply::Miss),
+    }
+}
+
+// Remove: a resident pair goes out; the ghosts stay as they are.
+pub fn remove(s: &mut [u8], z: Shape, k: GuestBlock) -> Spoken
+    requires { ⌜ Held z (now s) ⌝ }
+    ensures { λ r. ⌜ Answers z (now (s .entry)) (now (s .exit)) (Request.RM (k .0)) r ⌝ }
+{
+    let spot = store::look(s, z, k.0);
+    match spot {
+        Spot::Resident(q, x) => {
+            let v = nodes::value_of(s, z, x);
+            store::release(s, z, q, x);
+            alone(Reply::Gone(PhysicalBlock(v)))
+        }
+        Spot::Ghost(_) => alone(Reply::Miss),
+        Spot::Absent => alone(Reply::Miss),
+    }
+}
+
+// A pair whose key stands nowhere goes in: eviction first where the cache is full.
+fn arrive(s: &mut [u8], z: Shape, q: QueueKind, k: GuestBlock, v: PhysicalBlock) -> Spoken
+    requires { ⌜ Held z (now s) × Lacks z (now s) (k .0) ⌝ }
+    ensures { λ r. ⌜ Arrives z (now (s .entry)) (now (s .exit)) (kindOf q) (k .0) (v .0) r ⌝ }
+{
+    let evicted = evict::evict_if_full(s, z);
+    store::admit(s, z, q, k.0, v.0);
+    let pushed = evicted.pushed;
+    Spoken {
+        pushed,
+        closing: Reply::New(evicted.pops),
+    }
+}
+
+// Insert: a resident key gets the value and is raised; a ghost comes off its list, before eviction could drop it, and goes to Main; any other key
+// goes to Small.
+pub fn insert(s: &mut [u8], z: Shape, k: GuestBlock, v: PhysicalBlock) -> Spoken
+    requires { ⌜ Held z (now s) ⌝ }
+    ensures { λ r. ⌜ Answers z (now (s .entry)) (now (s .exit)) (Request.IN (k .0) (v .0)) r ⌝ }
+{
+    let spot = store::look(s, z, k.0);
+    match spot {
+        Spot::Resident(_, x) => {
+            let old = nodes::value_of(s, z, x);
+            let n = raised(nodes::mark_of(s, z, x));
+            store::replace(s, z, x, v.0, n);
+            alone(Reply::Replaced(PhysicalBlock(old)))
+        }
+        Spot::Ghost(x) => {
+            store::exhume(s, z, x);
+            arrive(s, z, QueueKind::Main, k, v)
+        }
+        Spot::Absent => arrive(s, z, QueueKind::Small, k, v),
+    }
+}
+
+// Pops the tail of a queue that is not empty: with a frequency above 0 it goes back, otherwise the pair is handed out and becomes no ghost.
+fn pop(s: &mut [u8], z: Shape, q: QueueKind) -> Popped
+    requires { ⌜ Held z (now s) × (1 ≤ length (queueOf (kindOf q) (stateIn z (now s)))) ⌝ }
+    ensures { λ r. ⌜ Pops z (now (s .entry)) (now (s .exit)) (kindOf q) r ⌝ }
+{
+    let x = store::tail_of(s, z, q);
+    let freq = nodes::mark_of(s, z, x);
+    if 0 < freq {
+        evict::go_back(s, z, q, x, freq);
+        return Popped::Back;
+    }
+    let k = nodes::key_of(s, z, x);
+    let v = nodes::value_of(s, z, x);
+    store::release(s, z, q, x);
+    Popped::Handed(GuestBlock(k), PhysicalBlock(v))
+}
+
+// The second pop, from Main, which has the entry that the first one sent back.
+fn second(s: &mut [u8], z: Shape) -> Reply
+    requires { ⌜ Held z (now s) × (1 ≤ length (stateIn z (now s) .main)) ⌝ }
+    ensures { λ r. ⌜ Comes z (now (s .entry)) (now (s .exit)) (secondOf (stateIn z (now (s .entry)))) (told r ∷ []) ⌝ }
+{
+    let popped = pop(s, z, QueueKind::Main);
+    match popped {
+        Popped::Handed(k, v) => Reply::Handed(k, v),
+        Popped::Back => Reply::Miss,
+    }
+}
+
+// The queue of the first pop: Small unless it is empty.
+fn first_queue(s: &[u8], z: Shape) -> QueueKind
+    requires { ⌜ Held z (now s) ⌝ }
+    ensures { λ r. ⌜ Starts z (now (s .entry)) (kindOf r) ⌝ }
+{
+    if store::len_of(s, z, QueueKind::Small) == 0 {
+        return QueueKind::Main;
+    }
+    QueueKind::Small
+}
+
+// The first pop, and the second where the first one hands nothing out.
+fn first(s: &mut [u8], z: Shape) -> Reply
+    requires { ⌜ Held z (now s) ⌝ }
+    ensures { λ r. ⌜ Comes z (now (s .entry)) (now (s .exit)) (firstOf (stateIn z (now (s .entry)))) (told r ∷ []) ⌝ }
+{
+    let q = first_queue(s, z);
+    if store::len_of(s, z, q) == 0 {
+        return Reply::Miss;
+    }
+    let popped = pop(s, z, q);
+    match popped {
+        Popped::Handed(k, v) => Reply::Handed(k, v),
+        Popped::Back => second(s, z),
+    }
+}
+
+// evict_one: eviction where the cache is full, and then one or two pops of its own.
+pub fn evict_one(s: &mut [u8], z: Shape) -> Spoken
+    requires { ⌜ Held z (now s) ⌝ }
+    ensures { λ r. ⌜ Answers z (now (s .entry)) (now (s .exit)) Request.EV r ⌝ }
+{
+    let evicted = evict::evict_if_full(s, z);
+    let pushed = evicted.pushed;
+    let closing = first(s, z);
+    Spoken { pushed, closing }
+}
+
+// Takes all entries out of a queue.
+fn drain(s: &mut [u8], z: Shape, q: QueueKind)
+    requires { ⌜ Keeps z (now s) ⌝ }
+    ensures { λ _. ⌜ Drained z (now (s .entry)) (now (s .exit)) (kindOf q) ⌝ }
+{
+    while 0 < store::len_of(s, z, q) {
+        let x = store::tail_of(s, z, q);
+        store::release(s, z, q, x);
+    }
+}
+
+// Clear: ghosts and queues become empty, node by node, so that it costs what is there.
+pub fn clear(s: &mut [u8], z: Shape) -> Spoken
+    requires { ⌜ Held z (now s) ⌝ }
+    ensures { λ r. ⌜ Answers z (now (s .entry)) (now (s .exit)) Request.CL r ⌝ }
+{
+    ghost_list::clear(s, z);
+    drain(s, z, QueueKind::Small);
+    drain(s, z, QueueKind::Main);
+    alone(Reply::Cleared)
+}
+
+// Any request.
+pub fn apply(s: &mut [u8], z: Shape, q: wire::Request) -> Spoken
+    requires { ⌜ Held z (now s) ⌝ }
+    ensures { λ r. ⌜ Answers z (now (s .entry)) (now (s .exit)) (asked q) r ⌝ }
+{
+    match q {
+        wire::Request::Get(k) => get(s, z, k),
+        wire::Request::Peek(k) => peek(s, z, k),
+        wire::Request::Remove(k) => remove(s, z, k),
+        wire::Request::Insert(k, v) => insert(s, z, k, v),
+        wire::Request::Evict => evict_one(s, z),
+        wire::Request::Clear => clear(s, z),
+    }
+}

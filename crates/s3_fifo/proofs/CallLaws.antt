@@ -64,6 +64,9 @@ called-damaged b c e q p = record { store = damaged; store-is = (b, c .damaged e
 
 -- ---- a sound store
 
+pub checked-held : {s : List ℕ} {r : Checked} {z : Shape} → Checks s r → r ≡ Sound· z → Held z s
+checked-held {z = z} c e = c .sound z e
+
 module _ {z : Shape} {s : List ℕ} (b : storeBytes ≤ length s) (h : Held z s) (q p : List ℕ) where
   pub called-long : mostRequestBytes < length q → Called s q p LongRequests s p
   unfolding call
@@ -71,7 +74,7 @@ module _ {z : Shape} {s : List ℕ} (b : storeBytes ≤ length s) (h : Held z s)
       record { store = reads (stateIn z s); store-is = (b, held-holds h); leaves = rw (lt-ltb mostRequestBytes (length q) l) (refl, refl, refl) }
 
   module _ (l : length q ≤ mostRequestBytes) {v : Survey} (g : v ≡ surveyed (length q) (parse q)) {t : Stop} (e : t ≡ v .stop) where
-    pub called-bad : (t ≡ Whole → ⊥) → {i : ℕ} → i ≡ v .at → Called s q p (BadRecord i) s p
+    called-bad : (t ≡ Whole → ⊥) → {i : ℕ} → i ≡ v .at → Called s q p (BadRecord i) s p
     unfolding call
     called-bad n {i} d =
         let w = broken-end (parse q .end) (length q) (λ k. n (e ∙ ap (λ (y : Survey). y .stop) g ∙ k)) in
@@ -81,6 +84,12 @@ module _ {z : Shape} {s : List ℕ} (b : storeBytes ≤ length s) (h : Held z s)
           store-is = (b, held-holds h);
           leaves = rw (le-ltb mostRequestBytes (length q) l, w .0, o) (refl, refl, refl);
         }
+
+    pub called-unknown : t ≡ Unknown → {i : ℕ} → i ≡ v .at → Called s q p (BadRecord i) s p
+    called-unknown w d = called-bad (λ k. let y : Unknown ≡ Whole = sym w ∙ k in let n : _≡_ {A = ℕ} 0 1 = cc in omega arith) d
+
+    pub called-cut : t ≡ Cut → {i : ℕ} → i ≡ v .at → Called s q p (BadRecord i) s p
+    called-cut w d = called-bad (λ k. let y : Cut ≡ Whole = sym w ∙ k in let n : _≡_ {A = ℕ} 0 1 = cc in omega arith) d
 
     module _ (all : t ≡ Whole) where
       pub called-room : length p < v .room → {i : ℕ} → i ≡ v .room → Called s q p (NoRoom i) s p
@@ -106,8 +115,7 @@ module _ {z : Shape} {s : List ℕ} (b : storeBytes ≤ length s) (h : Held z s)
             store = reads (stateIn z s);
             store-is = (b, held-holds h);
             leaves =
-                rw (le-ltb mostRequestBytes (length q) l, w, le-ltb (length p) (roomFor (parse q .requests)) (omega (arith, room-is q g)))
-                (
+                rw (le-ltb mostRequestBytes (length q) l, w, le-ltb (length p) (roomFor (parse q .requests)) (omega (arith, room-is q g))) (
                   ap (λ (k : ℕ). gave k) (x .count),
                   record { holds = rw (x .state) at (held-holds (x .held)); surplus = rw y at u; same-length = x .same },
                   x .replies ∙ ap (λ (k : ℕ). bs ++ drop k p) (zero-add (length bs)),

@@ -12,17 +12,22 @@ use Rattle.nodes.specs.Nodes.{Rest, cols}
 use Rattle.nodes.specs.declared.Shape.{Shape}
 use Rattle.rules.specs.Parts.{total}
 use Rattle.rules.specs.State.{State, Sound}
-use Rattle.rules.specs.Records.{Request, Reply, Sized, AllSized, Outcome}
+use Rattle.rules.specs.Records.{Request, Reply, ES, EM, Sized, AllSized, Outcome}
 use Rattle.rules.specs.Requests.{apply, run}
 use Rattle.rules.specs.Bytes.{encode, encodeAll, roomOf, roomFor, Reading, ask, strange, short, end, readAt, End, whole, unknownAt, cutAt, Parsed, with, onReading, parseFrom, parse}
 use Rattle.rules.proofs.SoundLaws.{apply-sound}
 use Rattle.rules.proofs.RoomLaws.{encode-length, encode-append, apply-size}
 use Rattle.rules.proofs.ParseLaws.{parse-step, parse-sized, read-goes}
+use Rattle.rules.specs.declared.GuestBlock.{GuestBlock}
+use Rattle.rules.specs.declared.PhysicalBlock.{PhysicalBlock}
 use Rattle.wire.specs.declared.Reply.{Reply as Reply·}
-use Rattle.wire.specs.Wire.{told, splice, Wrote}
+use Rattle.wire.specs.declared.Request.{Request as Request·}
+use Rattle.wire.specs.declared.Record.{Record}
+use Rattle.wire.specs.declared.Record.the-variants.{Ask, Unknown, Cut, End as Over}
+use Rattle.wire.specs.Wire.{asked, told, meaning, splice, Wrote}
 use Rattle.wire.proofs.SpliceLaws.{splice-length, wrote-wrote, wrote-length, Partly, partly-none, partly-more, partly-all}
 use Rattle.evict.specs.declared.Pushed.{Pushed}
-use Rattle.evict.specs.declared.Pushed.the-variants.{Nothing}
+use Rattle.evict.specs.declared.Pushed.the-variants.{Nothing, FromSmall, FromMain}
 use Rattle.evict.specs.Evicts.{pushedOf}
 use Rattle.requests.specs.declared.Spoken.{Spoken}
 use Rattle.requests.specs.Answers.{spokenOf, Answers}
@@ -45,11 +50,18 @@ unfolding encodeAll
 put-nothing {p} {i} w e h = rw e (record { bytes = splice-none p i (omega arith); end = sym (add-zero i) })
 
 -- one was: its reply is all
-pub put-pair : {p p′ : List ℕ} {i m : ℕ} (w : Pushed) (r : Reply·) → pushedOf w ≡ told r ∷ [] → Wrote p i (encode (told r)) p′ m → Wrote p i (encodeAll (pushedOf w)) p′ m
-put-pair w r e h = rw (e, encode-one (told r)) h
+module _ (w : Pushed) {k : GuestBlock} {v : PhysicalBlock} where
+  pub put-small : w ≡ FromSmall k v → {p p′ : List ℕ} {i m : ℕ} → Wrote p i (encode (ES (k .0) (v .0))) p′ m → Wrote p i (encodeAll (pushedOf w)) p′ m
+  put-small e h = rw (e, encode-one (ES (k .0) (v .0))) h
 
-pub pair-fits : {n : ℕ} (i : ℕ) (w : Pushed) (r : Reply·) → pushedOf w ≡ told r ∷ [] → i + length (encodeAll (pushedOf w)) ≤ n → i + length (encode (told r)) ≤ n
-pair-fits i w r e h = rw (e, encode-one (told r)) at h
+  pub put-main : w ≡ FromMain k v → {p p′ : List ℕ} {i m : ℕ} → Wrote p i (encode (EM (k .0) (v .0))) p′ m → Wrote p i (encodeAll (pushedOf w)) p′ m
+  put-main e h = rw (e, encode-one (EM (k .0) (v .0))) h
+
+  pub small-fits : w ≡ FromSmall k v → {n : ℕ} (i : ℕ) → i + length (encodeAll (pushedOf w)) ≤ n → i + length (encode (ES (k .0) (v .0))) ≤ n
+  small-fits e i h = rw (e, encode-one (ES (k .0) (v .0))) at h
+
+  pub main-fits : w ≡ FromMain k v → {n : ℕ} (i : ℕ) → i + length (encodeAll (pushedOf w)) ≤ n → i + length (encode (EM (k .0) (v .0))) ≤ n
+  main-fits e i h = rw (e, encode-one (EM (k .0) (v .0))) at h
 
 -- the pair and the closing reply
 spoken-bytes : (w : Pushed) (r : Reply·) → encodeAll (pushedOf w ++ (told r ∷ [])) ≡ encodeAll (pushedOf w) ++ encode (told r)
@@ -101,41 +113,47 @@ midway-start {z} {s} {q} {p} h y b =
     }
 
 module _ {z : Shape} {s₀ s q p₀ p : List ℕ} {at out : ℕ} (m : Midway z s₀ s q p₀ p at out) where
+  pub midway-held : Held z s
+  midway-held = m .held
+
   -- one request is read
-  module _ {r : Request} {after : ℕ} (e : ask r after ≡ readAt q at) where
-    more : parseFrom q at ≡ with r (parseFrom q after)
+  module _ {x : Record} (read : meaning x ≡ readAt q at) {k : Request·} {after : ℕ} (is : x ≡ Ask k after) where
+    e : ask (asked k) after ≡ readAt q at
+    e = ap meaning (sym is) ∙ read
+
+    more : parseFrom q at ≡ with (asked k) (parseFrom q after)
     more = parse-step q at ∙ ap (onReading (parseFrom q) at) (sym e)
 
-    r-sized : Sized r
+    r-sized : Sized (asked k)
     r-sized = rw more at (m .sized) .0
 
-    pub read-further : (at < after) × (after ≤ length q)
-    read-further = read-goes q at r after (sym e)
+    pub midway-less : length q - after < length q - at
+    midway-less = omega (arith, read-goes q at (asked k) after (sym e))
 
-    now-ready : roomOf r + roomFor (parseFrom q after .requests) ≤ length p - out
+    now-ready : roomOf (asked k) + roomFor (parseFrom q after .requests) ≤ length p - out
     unfolding roomFor
     now-ready = rw more at (m .ready)
 
-    now-run : from (stateIn z s) q at ≡ run (stateIn z s) (r ∷ parseFrom q after .requests)
+    now-run : from (stateIn z s) q at ≡ run (stateIn z s) (asked k ∷ parseFrom q after .requests)
     now-run = ap (λ x. run (stateIn z s) (x .requests)) more
 
-    module _ {s₁ : List ℕ} {w : Spoken} (a : Answers z s s₁ r w) where
+    module _ {s₁ : List ℕ} {w : Spoken} (a : Answers z s s₁ (asked k) w) where
       -- its replies fit
       pub midway-fits : out + length (encodeAll (spokenOf w)) ≤ length p
       midway-fits =
-          omega (arith, ap length (ap encodeAll (a .replies)), encode-length (apply (stateIn z s) r .replies), apply-size (stateIn z s) r (m .held .sound), now-ready, m .part .within)
+          omega (arith, ap length (ap encodeAll (a .replies)), encode-length (apply (stateIn z s) (asked k) .replies), apply-size (stateIn z s) (asked k) (m .held .sound), now-ready, m .part .within)
 
       now-held : Held z s₁
-      now-held = record { keeps = a .becomes .keeps; sound = rw (a .becomes .state) (apply-sound (stateIn z s) r r-sized (m .held .sound)) }
+      now-held = record { keeps = a .becomes .keeps; sound = rw (a .becomes .state) (apply-sound (stateIn z s) (asked k) r-sized (m .held .sound)) }
 
-      now-state : run (stateIn z s) (r ∷ parseFrom q after .requests) .state ≡ from (stateIn z s₁) q after .state
+      now-state : run (stateIn z s) (asked k ∷ parseFrom q after .requests) .state ≡ from (stateIn z s₁) q after .state
       unfolding run
       now-state = rw (a .becomes .state)
 
-      now-replies : encodeAll (run (stateIn z s) (r ∷ parseFrom q after .requests) .replies) ≡ encodeAll (spokenOf w) ++ encodeAll (from (stateIn z s₁) q after .replies)
+      now-replies : encodeAll (run (stateIn z s) (asked k ∷ parseFrom q after .requests) .replies) ≡ encodeAll (spokenOf w) ++ encodeAll (from (stateIn z s₁) q after .replies)
       unfolding run
       now-replies =
-          encode-append (apply (stateIn z s) r .replies) (run (apply (stateIn z s) r .state) (parseFrom q after .requests) .replies)
+          encode-append (apply (stateIn z s) (asked k) .replies) (run (apply (stateIn z s) (asked k) .state) (parseFrom q after .requests) .replies)
           ∙ ap₂ (λ (l : List Reply) (τ : State). encodeAll l ++ encodeAll (from τ q after .replies)) (sym (a .replies)) (sym (a .becomes .state))
 
       pub midway-next : {p₁ : List ℕ} {out₁ : ℕ} → Wrote p out (encodeAll (spokenOf w)) p₁ out₁ → length s₁ ≡ length s → Midway z s₀ s₁ q p₀ p₁ after out₁
@@ -152,8 +170,8 @@ module _ {z : Shape} {s₀ s q p₀ p : List ℕ} {at out : ℕ} (m : Midway z s
                 omega (
                   arith,
                   ap length (ap encodeAll (a .replies)),
-                  encode-length (apply (stateIn z s) r .replies),
-                  apply-size (stateIn z s) r (m .held .sound),
+                  encode-length (apply (stateIn z s) (asked k) .replies),
+                  apply-size (stateIn z s) (asked k) (m .held .sound),
                   now-ready,
                   b .end,
                   wrote-length b f,
@@ -165,9 +183,10 @@ module _ {z : Shape} {s₀ s q p₀ p : List ℕ} {at out : ℕ} (m : Midway z s
           }
 
   -- all is read
-  pub midway-end : end ≡ readAt q at → Runs z s₀ s q p₀ p out
+  pub midway-end : {x : Record} → meaning x ≡ readAt q at → x ≡ Over → Runs z s₀ s q p₀ p out
   unfolding run encodeAll parse
-  midway-end e =
+  midway-end read is =
+      let e : end ≡ readAt q at = ap meaning (sym is) ∙ read in
       let none : parseFrom q at ≡ record { requests = []; end = whole } = parse-step q at ∙ ap (onReading (parseFrom q) at) (sym e) in
       let t : from (stateIn z s) q at ≡ record { state = stateIn z s; replies = [] } = ap (λ x. run (stateIn z s) (x .requests)) none in
       let g : Partly p₀ p out [] (encodeAll (from (stateIn z s₀) q 0 .replies)) = rw t at (m .part) in
@@ -185,10 +204,12 @@ module _ {z : Shape} {s₀ s q p₀ p : List ℕ} {at out : ℕ} (m : Midway z s
   no-break : (i : End) → parseFrom q at .end ≡ i → (i ≡ whole → ⊥) → ⊥
   no-break i e n = n (sym e ∙ m .end-is)
 
-  pub midway-unknown : strange ≡ readAt q at → Runs z s₀ s q p₀ p out
-  midway-unknown e =
+  pub midway-unknown : {x : Record} → meaning x ≡ readAt q at → x ≡ Unknown → Runs z s₀ s q p₀ p out
+  midway-unknown read is =
+      let e : strange ≡ readAt q at = ap meaning (sym is) ∙ read in
       absurd (no-break (unknownAt at) (ap (λ (x : Parsed). x .end) (parse-step q at ∙ ap (onReading (parseFrom q) at) (sym e))) (λ n. let b : _≡_ {A = ℕ} 0 1 = cc in omega arith))
 
-  pub midway-cut : short ≡ readAt q at → Runs z s₀ s q p₀ p out
-  midway-cut e =
+  pub midway-cut : {x : Record} → meaning x ≡ readAt q at → x ≡ Cut → Runs z s₀ s q p₀ p out
+  midway-cut read is =
+      let e : short ≡ readAt q at = ap meaning (sym is) ∙ read in
       absurd (no-break (cutAt at) (ap (λ (x : Parsed). x .end) (parse-step q at ∙ ap (onReading (parseFrom q) at) (sym e))) (λ n. let b : _≡_ {A = ℕ} 0 1 = cc in omega arith))

@@ -18,38 +18,51 @@ pub fn print() {
     silent_rows();
 }
 
-fn creation_rows() {
-    let (small, large) = DEFAULTS;
-    refused(1, "capacity 0", settings(0, small, large));
-    refused(2, "capacity 1,025", settings(1025, small, large));
-    refused(2, "capacity 2^64 - 1, ghost ratio 0.0", settings(u64::MAX, small, 0.0));
-    for ratio in [f64::NAN, f64::INFINITY, 1.0f64.next_up(), -0.1, -0.0] {
-        refused(3, &format!("small ratio {ratio:?}"), settings(4, ratio, large));
-    }
-    for ratio in [f64::NAN, f64::INFINITY, -0.1, -0.0] {
-        refused(4, &format!("ghost ratio {ratio:?}"), settings(4, small, ratio));
-    }
-    refused(5, "capacity 1,024, ghost ratio 1.00048828125", settings(1024, small, 1.000_488_281_25));
-    refused(5, "capacity 1, ghost ratio 1025.0", settings(1, small, 1025.0));
+/// What the original does with settings that ours refuses.
+#[derive(Debug, PartialEq, Eq)]
+enum Outcome {
+    Accepts,
+    Errs,
+    Panics,
 }
 
-/// Tries settings that ours refuses, and says what the original does with them.
-fn refused(number: u64, input: &str, settings: Settings) {
+fn creation_rows() {
+    use Outcome::*;
+    let (small, large) = DEFAULTS;
+    refused(1, "capacity 0", settings(0, small, large), Errs);
+    refused(2, "capacity 1,025", settings(1025, small, large), Accepts);
+    refused(2, "capacity 2^64 - 1, ghost ratio 0.0", settings(u64::MAX, small, 0.0), Panics);
+    for (ratio, outcome) in
+        [(f64::NAN, Errs), (f64::INFINITY, Errs), (1.0f64.next_up(), Errs), (-0.1, Errs), (-0.0, Accepts)]
+    {
+        refused(3, &format!("capacity 4, small ratio {ratio:?}"), settings(4, ratio, large), outcome);
+    }
+    for (ratio, outcome) in [(f64::NAN, Errs), (f64::INFINITY, Errs), (-0.1, Errs), (-0.0, Accepts)] {
+        refused(4, &format!("capacity 4, ghost ratio {ratio:?}"), settings(4, small, ratio), outcome);
+    }
+    refused(5, "capacity 1,024, ghost ratio 1.00048828125", settings(1024, small, 1.000_488_281_25), Accepts);
+    refused(5, "capacity 1, ghost ratio 1025.0", settings(1, small, 1025.0), Accepts);
+}
+
+/// Tries settings on both, and prints the original's part.
+fn refused(number: u64, input: &str, settings: Settings, expected: Outcome) {
     let refusal = library::create(settings, &mut fresh_store()).expect_err("ours refuses");
-    assert_eq!((refusal.number, refusal.detail), (number, 0), "{input}");
-    let original = match quietly(|| Original::create(settings)) {
+    assert_eq!(refusal.number, number, "{input}");
+    let (outcome, words) = match quietly(|| Original::create(settings)) {
         Ok(Ok(original)) => {
             let State { capacity, small_limit, ghost_limit, .. } = original.state();
-            format!("accepts: capacity {capacity}, Small limit {small_limit}, ghost limit {ghost_limit}")
+            let limits = format!("capacity {capacity}, Small limit {small_limit}, ghost limit {ghost_limit}");
+            (Outcome::Accepts, format!("accepts: {limits}"))
         },
         Ok(Err(error)) => {
             let panicked = quietly(|| with_ratios(settings)).err();
             assert_eq!(panicked, Some(error.to_string()), "{input}: `with_ratios` panics where `try_with_ratios` errs");
-            format!("`try_with_ratios` errs, `with_ratios` panics: \"{error}\"")
+            (Outcome::Errs, format!("`try_with_ratios` errs, `with_ratios` panics: \"{error}\""))
         },
-        Err(panicked) => format!("`try_with_ratios` panics: \"{panicked}\""),
+        Err(panicked) => (Outcome::Panics, format!("`try_with_ratios` panics: \"{panicked}\"")),
     };
-    println!("| {number} | {input} | {original} |");
+    assert_eq!(outcome, expected, "{input}");
+    println!("| {number} | {input} | {words} |");
 }
 
 fn with_ratios(settings: Settings) -> S3FifoCache<u64, u64> {
@@ -70,51 +83,29 @@ fn quietly<T>(work: impl FnOnce() -> T + UnwindSafe) -> Result<T, String> {
 
 fn call_rows() {
     let insert = bytes(&[Request::Insert { key: 7, value: 70 }]);
+    let cut = [&insert[..], b"G"].concat();
+    let clears = vec![Request::Clear; 16_385];
     let shorter = library::store_bytes() - 1;
-    let long = bytes(&vec![Request::Clear; 16_385]);
-    row(6, "a store one byte short", refusal(&mut created()[..shorter], &insert, 28), 0, "has no store: it allocates");
     let mut damaged = created();
     damaged[0] = 0;
-    row(
-        7,
-        "a store whose capacity is overwritten by 0",
-        refusal(&mut damaged, &insert, 28),
-        0,
-        "has no store: its fields are private, and only debug builds can check them",
-    );
-    row(
-        8,
-        "16,385 times CL, 32,770 bytes",
-        refusal(&mut created(), &long, 65_536),
-        0,
-        "has no such limit: `clear` that many times runs",
-    );
     let mut original = Original::create(settings(1, DEFAULTS.0, DEFAULTS.1)).expect("valid settings");
-    (0..16_385).for_each(|_| original.answer(Request::Clear, &mut Vec::new()));
-    row(9, "the bytes XX", refusal(&mut created(), b"XX", 28), 0, "has no bytes: its requests are methods");
-    row(
-        9,
-        "IN 7 70, then the byte G",
-        refusal(&mut created(), &[&insert[..], b"G"].concat(), 38),
-        18,
-        "has no bytes: its requests are methods",
-    );
-    row(
-        10,
-        "IN 7 70 with a reply buffer of 27 bytes",
-        refusal(&mut created(), &insert, 27),
-        28,
-        "has no reply buffer: its methods return values",
-    );
-}
+    clears.iter().for_each(|clear| original.answer(*clear, &mut Vec::new()));
 
-fn row(number: u64, input: &str, refusal: library::Refusal, detail: u64, original: &str) {
-    assert_eq!((refusal.number, refusal.detail), (number, detail), "{input}");
-    println!("| {number} | {input} (detail {detail}) | {original} |");
-}
-
-fn refusal(store: &mut [u8], requests: &[u8], room: usize) -> library::Refusal {
-    library::run(store, requests, &mut vec![0; room]).expect_err("ours refuses")
+    let no_bytes = "has no bytes: its requests are methods";
+    let row = |number, store: &mut [u8], requests: &[u8], room, detail, input, original| {
+        let refusal = library::run(store, requests, &mut vec![0; room]).expect_err("ours refuses");
+        assert_eq!((refusal.number, refusal.detail), (number, detail), "{input}");
+        println!("| {number} | {input} (detail {detail}) | {original} |");
+    };
+    row(6, &mut created()[..shorter], &insert, 28, 0, "a store one byte short", "has no store: it allocates");
+    let private = "has no store: its fields are private, and only debug builds can check them";
+    row(7, &mut damaged, &insert, 28, 0, "a store whose capacity is overwritten by 0", private);
+    let unlimited = "has no such limit: `clear` that many times runs";
+    row(8, &mut created(), &bytes(&clears), 65_536, 0, "16,385 times CL, 32,770 bytes", unlimited);
+    row(9, &mut created(), b"XX", 28, 0, "the bytes XX", no_bytes);
+    row(9, &mut created(), &cut, 38, 18, "IN 7 70, then the byte G", no_bytes);
+    let returned = "has no reply buffer: its methods return values";
+    row(10, &mut created(), &insert, 27, 28, "IN 7 70 with a reply buffer of 27 bytes", returned);
 }
 
 /// Where both accept, and the original says less.

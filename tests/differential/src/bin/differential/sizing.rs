@@ -3,37 +3,36 @@
 use crate::store;
 use differential::random::Random;
 use differential::settings::{DEFAULT_GHOST_RATIO, DEFAULT_SMALL_RATIO, MOST_CAPACITY, MOST_GHOSTS};
-use library::Refusal;
 use original::driver::Original;
+use original::error::ConfigError;
 use original::records::Settings;
 
 /// The original reserves its ghost list at once; larger ones are not tried.
 const LARGEST_TRIED_GHOSTS: f64 = 100_000.0;
 
-#[derive(Default)]
-pub struct Counts {
-    same_limits: u64,
-    both_refuse: u64,
-    only_ours_refuses_size: u64,
-    only_ours_refuses_negative_zero: u64,
-    too_large_to_try: u64,
-}
+/// How the two may compare. Any other outcome is a difference.
+const SAME_LIMITS: &str = "both accept, with the same limits";
+const BOTH_REFUSE: &str = "both refuse, for the same reason";
+const BOTH_REFUSE_OTHERWISE: &str = "both refuse: ours the capacity (2), the original a ratio, which it judges first";
+const TOO_LARGE: &str = "only ours refuses: more than 1,024 (2 and 5)";
+const NEGATIVE_ZERO: &str = "only ours refuses: a ratio of -0.0 (3 and 4)";
+const NOT_TRIED: &str = "ours refuses, the original was not tried: it would reserve too much";
+const OUTCOMES: [&str; 6] = [SAME_LIMITS, BOTH_REFUSE, BOTH_REFUSE_OTHERWISE, TOO_LARGE, NEGATIVE_ZERO, NOT_TRIED];
 
 /// Compares creation for every capacity, with ratios on both sides of every kind of boundary.
-pub fn run(seed: u64) -> Result<Counts, String> {
+pub fn run(seed: u64) -> Result<(), String> {
     let mut random = Random::new(seed);
-    let mut counts = Counts::default();
+    let mut outcomes = Vec::new();
     let mut store = vec![0; library::store_bytes()];
     for capacity in 0..=MOST_CAPACITY + 2 {
         for small_ratio in ratios(capacity, capacity, &mut random) {
-            compare(Settings { capacity, small_ratio, ghost_ratio: DEFAULT_GHOST_RATIO }, &mut store, &mut counts)?;
+            outcomes.push(compare(Settings { capacity, small_ratio, ghost_ratio: DEFAULT_GHOST_RATIO }, &mut store)?);
         }
         for ghost_ratio in ratios(capacity, MOST_GHOSTS + 1, &mut random) {
-            compare(Settings { capacity, small_ratio: DEFAULT_SMALL_RATIO, ghost_ratio }, &mut store, &mut counts)?;
+            outcomes.push(compare(Settings { capacity, small_ratio: DEFAULT_SMALL_RATIO, ghost_ratio }, &mut store)?);
         }
     }
-    counts.report()?;
-    Ok(counts)
+    report(&outcomes)
 }
 
 /// Ratios at the ends of the format and of what is taken, and where a product of the capacity is about to round up.
@@ -58,58 +57,53 @@ fn ratios(capacity: u64, most_limit: u64, random: &mut Random) -> Vec<f64> {
     ratios
 }
 
-fn compare(settings: Settings, store: &mut [u8], counts: &mut Counts) -> Result<(), String> {
-    let ours = library::create(settings, store);
+fn compare(settings: Settings, store: &mut [u8]) -> Result<&'static str, String> {
+    let ours = library::create(settings, store).map_err(|refusal| refusal.number);
     let product = settings.capacity as f64 * settings.ghost_ratio;
     if settings.ghost_ratio.is_finite() && product > LARGEST_TRIED_GHOSTS {
-        counts.too_large_to_try += 1;
         return match ours {
-            Err(_) => Ok(()),
+            Err(_) => Ok(NOT_TRIED),
             Ok(()) => Err(format!("{settings}: accepted with {product} ghosts")),
         };
     }
     let original = Original::create(settings).map(|original| original.state());
-    let negative_zero = |ratio: f64| ratio == 0.0 && ratio.is_sign_negative();
-    match (&ours, &original) {
-        (Ok(()), Ok(state)) if store::read(store)? == *state => counts.same_limits += 1,
-        (Err(Refusal { number: 1 | 3 | 4, .. }), Err(_)) => counts.both_refuse += 1,
-        // a capacity above the most is judged before the ratios
-        (Err(Refusal { number: 2, .. }), Err(_)) => counts.both_refuse += 1,
-        (Err(Refusal { number: 2, .. }), Ok(state)) if state.capacity > MOST_CAPACITY => {
-            counts.only_ours_refuses_size += 1
-        },
-        (Err(Refusal { number: 5, .. }), Ok(state)) if state.ghost_limit > MOST_GHOSTS => {
-            counts.only_ours_refuses_size += 1
-        },
-        (Err(Refusal { number: 3, .. }), Ok(_)) if negative_zero(settings.small_ratio) => {
-            counts.only_ours_refuses_negative_zero += 1
-        },
-        (Err(Refusal { number: 4, .. }), Ok(_)) if negative_zero(settings.ghost_ratio) => {
-            counts.only_ours_refuses_negative_zero += 1
-        },
+    match (ours, &original) {
+        (Ok(()), Ok(state)) if store::read(store)? == *state => Ok(SAME_LIMITS),
+        (Err(number), Err(error)) if number == refusal_for(error) => Ok(BOTH_REFUSE),
+        (Err(2), Err(_)) if settings.capacity > MOST_CAPACITY => Ok(BOTH_REFUSE_OTHERWISE),
+        (Err(2), Ok(state)) if state.capacity > MOST_CAPACITY => Ok(TOO_LARGE),
+        (Err(5), Ok(state)) if state.ghost_limit > MOST_GHOSTS => Ok(TOO_LARGE),
+        (Err(3), Ok(_)) if is_negative_zero(settings.small_ratio) => Ok(NEGATIVE_ZERO),
+        (Err(4), Ok(_)) if is_negative_zero(settings.ghost_ratio) => Ok(NEGATIVE_ZERO),
         (Ok(()), Ok(state)) => {
-            return Err(format!("{settings}: the limits differ\n ours\n{}\n original\n{state}", store::read(store)?));
+            Err(format!("{settings}: the limits differ\n ours\n{}\n original\n{state}", store::read(store)?))
         },
-        (ours, original) => return Err(format!("{settings}: ours {ours:?}, original {original:?}")),
+        (ours, original) => Err(format!("{settings}: ours {ours:?}, original {original:?}")),
     }
-    Ok(())
 }
 
-impl Counts {
-    /// Prints the counts. The error names what never came up.
-    fn report(&self) -> Result<(), String> {
-        for (count, what) in [
-            (self.same_limits, "both accept, with the same limits"),
-            (self.both_refuse, "both refuse"),
-            (self.only_ours_refuses_size, "only ours refuses: more than 1,024 (2 and 5)"),
-            (self.only_ours_refuses_negative_zero, "only ours refuses: a ratio of -0.0 (3 and 4)"),
-            (self.too_large_to_try, "ours refuses, the original was not tried: it would reserve too much"),
-        ] {
-            println!("{count:>12}  creations: {what}");
-            if count == 0 {
-                return Err(format!("never came up: {what}"));
-            }
-        }
-        Ok(())
+/// Our number for what the original errs about.
+fn refusal_for(error: &ConfigError) -> u64 {
+    match error.message() {
+        message if message.starts_with("cache capacity") => 1,
+        message if message.starts_with("small_ratio") => 3,
+        message if message.starts_with("ghost_ratio") => 4,
+        message => panic!("the original errs with unknown words: {message}"),
     }
+}
+
+fn is_negative_zero(ratio: f64) -> bool {
+    ratio == 0.0 && ratio.is_sign_negative()
+}
+
+/// Prints how often each outcome came up. The error names one that never did.
+fn report(outcomes: &[&str]) -> Result<(), String> {
+    for outcome in OUTCOMES {
+        let count = outcomes.iter().filter(|each| **each == outcome).count();
+        println!("{count:>12}  creations: {outcome}");
+        if count == 0 {
+            return Err(format!("never came up: {outcome}"));
+        }
+    }
+    Ok(())
 }

@@ -22,6 +22,16 @@ pub fn exactly(capacity: u64, small_limit: u64, ghost_limit: u64) -> Settings {
     }
 }
 
+/// Both products halfway above the limit given, and the nearest ratios on each side: where rounding decides.
+pub fn around_half(capacity: u64, limit: u64) -> [Settings; 3] {
+    let half = ratio(capacity, limit, 0.5);
+    [half.next_down(), half, half.next_up()].map(|ratio| Settings {
+        capacity,
+        small_ratio: ratio.min(1.0),
+        ghost_ratio: ratio,
+    })
+}
+
 /// Any limits, those at the ends and the default ones more often than others.
 pub fn any(capacity: u64, random: &mut Random) -> Settings {
     let small_ratio = match random.below(6) {

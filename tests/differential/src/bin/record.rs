@@ -69,14 +69,22 @@ fn files() -> [File; 3] {
     ]
 }
 
-/// Short runs at small capacities, where most requests meet a limit: every Small limit, few ghosts.
+/// Short runs at small capacities, where most requests meet a limit: every Small limit with few ghosts, and limits that
+/// hang on how a product is rounded.
 fn few(random: &mut Random) -> Vec<Case> {
     let mut cases = Vec::new();
     for capacity in 1..=5 {
+        let mut short = |settings, times| {
+            cases.extend((0..times).map(|_| random_case(settings, 2 * capacity + 8, random)));
+        };
         for small_limit in 0..=capacity {
             for ghost_limit in 0..=4 {
-                let settings = settings::exactly(capacity, small_limit, ghost_limit);
-                cases.extend((0..20).map(|_| random_case(settings, 2 * capacity + 8, random)));
+                short(settings::exactly(capacity, small_limit, ghost_limit), 16);
+            }
+        }
+        for limit in 0..capacity {
+            for settings in settings::around_half(capacity, limit) {
+                short(settings, 8);
             }
         }
     }

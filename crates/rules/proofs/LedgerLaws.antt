@@ -5,7 +5,7 @@ use native.Mathlib.Omega.{arith}
 use mathlib.Core.Path.{_≡_, refl, ap, _∙_, sym}
 use mathlib.Core.Logic.{_⊎_, inl, inr}
 use mathlib.Core.Bool.{Bool, true, false, cond, _&&_}
-use mathlib.Core.List.{List, [], _∷_, _++_, append-assoc}
+use mathlib.Core.List.{List, [], _∷_, _++_, append-assoc, append-nil}
 use lib.Dec.{eqb}
 use borrow.Author.Tests.{eqb-true, eq-eqb}
 use Rattle.rules.specs.Parts.{bit, total, Pop, empty, popped, popTail}
@@ -267,6 +267,11 @@ demand-3 L calls f z =
       once = s .once;
       full = λ k v. full-insert k v (served (emptyAt L) calls) s;
     }
+
+-- the same of one run of requests
+pub demand-3-run : (L : Limits) (rs : List Request) → Fine L → AllSized rs → Demand3 (run (emptyAt L) rs .state) (history (emptyAt L) rs)
+unfolding served histories
+demand-3-run L rs f z = rw (append-nil (history (emptyAt L) rs)) at (demand-3 L (rs ∷ []) f (z, tt))
 
 -- ---- where the requests are cut into calls makes no difference
 

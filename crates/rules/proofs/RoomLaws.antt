@@ -2,10 +2,10 @@
 -- Assumes nothing.
 use Prim.Native.Nat.{ℕ, zero, suc, _+_, _/_, _≤_}
 use native.Mathlib.Omega.{arith}
-use mathlib.Core.Path.{_≡_, refl, ap, _∙_}
+use mathlib.Core.Path.{_≡_, refl, ap, sym, _∙_}
 use mathlib.Core.Logic.{_⊎_, inl, inr}
 use mathlib.Core.Bool.{Bool, true, false, cond}
-use mathlib.Core.List.{List, [], _∷_, _++_}
+use mathlib.Core.List.{List, [], _∷_, _++_, append-assoc}
 use lib.ListN.{length, length-append}
 use lib.Dec.{eqb, ltb}
 use Rattle.rules.specs.declared.Kind.the-variants.{Get, Peek, Remove, Insert, Evict}
@@ -54,6 +54,11 @@ pub encode-length : (rs : List Reply) → length (encodeAll rs) ≡ total size r
 unfolding encodeAll
 encode-length [] = refl
 encode-length (r ∷ rs) = omega (arith, length-append (encode r) (encodeAll rs), encode-size r, encode-length rs)
+
+pub encode-append : (a b : List Reply) → encodeAll (a ++ b) ≡ encodeAll a ++ encodeAll b
+unfolding encodeAll
+encode-append [] b = refl
+encode-append (r ∷ a) b = ap (λ l. encode r ++ l) (encode-append a b) ∙ sym (append-assoc (encode r) (encodeAll a) (encodeAll b))
 
 -- ---- the replies of a request
 

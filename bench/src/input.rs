@@ -1,0 +1,121 @@
+//! What is run: requests as bytes, cut into calls.
+
+use original::records::{MOST_REQUEST_BYTES, Request, Settings};
+
+pub const CAPACITIES: [u64; 2] = [100, 1000];
+pub const PATTERNS: [Pattern; 3] = [Pattern::Uniform, Pattern::Skewed, Pattern::Scan];
+
+const LOOKUPS_TO_AN_INSERT: u64 = 4;
+const SEED: u64 = 1;
+
+/// How the keys of lookups and inserts come.
+#[derive(Clone, Copy, Debug, PartialEq, Eq)]
+pub enum Pattern {
+    /// Each of twice as many keys as the capacity alike.
+    Uniform,
+    /// Of ten times as many keys as the capacity, the n-th in proportion to 1 / n.
+    Skewed,
+    /// Four times as many keys as the capacity one after the other, over and over; lookups and inserts walk on their own.
+    Scan,
+}
+
+impl Pattern {
+    pub fn name(self) -> &'static str {
+        match self {
+            Pattern::Uniform => "uniform",
+            Pattern::Skewed => "skewed",
+            Pattern::Scan => "scan",
+        }
+    }
+
+    pub fn named(name: &str) -> Option<Pattern> {
+        PATTERNS.into_iter().find(|pattern| pattern.name() == name)
+    }
+}
+
+pub struct Call {
+    pub requests: Vec<u8>,
+    pub room: usize,
+}
+
+pub struct Input {
+    pub settings: Settings,
+    pub calls: Vec<Call>,
+}
+
+/// So many requests, in calls as large as they may be.
+pub fn input(capacity: u64, pattern: Pattern, requests: u64) -> Input {
+    let mut keys = Keys::new(capacity, pattern);
+    let mut calls = vec![Call { requests: Vec::new(), room: 0 }];
+    for number in 0..requests {
+        let request = match number % (LOOKUPS_TO_AN_INSERT + 1) {
+            LOOKUPS_TO_AN_INSERT => Request::Insert { key: keys.next_insert(), value: number },
+            _ => Request::Get { key: keys.next_lookup() },
+        };
+        let mut call = calls.pop().expect("there is a call");
+        if call.requests.len() + request.bytes() > MOST_REQUEST_BYTES {
+            calls.push(call);
+            call = Call { requests: Vec::new(), room: 0 };
+        }
+        request.write(&mut call.requests);
+        call.room += request.room();
+        calls.push(call);
+    }
+    Input { settings: Settings { capacity, small_ratio: 0.1, ghost_ratio: 0.9 }, calls }
+}
+
+struct Keys {
+    pattern: Pattern,
+    state: u64,
+    universe: u64,
+    looked_up: u64,
+    inserted: u64,
+    /// For the skewed pattern: the sum of 1 / n up to each n.
+    sums: Vec<f64>,
+}
+
+impl Keys {
+    fn new(capacity: u64, pattern: Pattern) -> Keys {
+        let universe = match pattern {
+            Pattern::Uniform => 2 * capacity,
+            Pattern::Skewed => 10 * capacity,
+            Pattern::Scan => 4 * capacity,
+        };
+        let sums = (1..=universe)
+            .scan(0.0, |sum, n| {
+                *sum += 1.0 / n as f64;
+                Some(*sum)
+            })
+            .collect();
+        Keys { pattern, state: SEED, universe, looked_up: 0, inserted: 0, sums }
+    }
+
+    fn next_lookup(&mut self) -> u64 {
+        self.looked_up += 1;
+        self.key(self.looked_up)
+    }
+
+    fn next_insert(&mut self) -> u64 {
+        self.inserted += 1;
+        self.key(self.inserted)
+    }
+
+    fn key(&mut self, turn: u64) -> u64 {
+        match self.pattern {
+            Pattern::Uniform => (self.fraction() * self.universe as f64) as u64,
+            Pattern::Skewed => {
+                let sum = self.fraction() * self.sums[self.sums.len() - 1];
+                self.sums.partition_point(|so_far| *so_far <= sum) as u64
+            },
+            Pattern::Scan => turn % self.universe,
+        }
+    }
+
+    /// A number in [0, 1), by SplitMix64.
+    fn fraction(&mut self) -> f64 {
+        self.state = self.state.wrapping_add(0x9e37_79b9_7f4a_7c15);
+        let a = (self.state ^ (self.state >> 30)).wrapping_mul(0xbf58_476d_1ce4_e5b9);
+        let b = (a ^ (a >> 27)).wrapping_mul(0x94d0_49bb_1331_11eb);
+        ((b ^ (b >> 31)) >> 11) as f64 / (1u64 << 53) as f64
+    }
+}

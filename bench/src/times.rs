@@ -1,0 +1,63 @@
+//! Times, of both sides in turn in the same run. Of some rounds the quickest counts: what else the machine does only adds.
+
+use crate::input::Input;
+use crate::sides::{Original, Ours, Side};
+use original::records::Reply;
+use std::hint::black_box;
+use std::time::{Duration, Instant};
+
+const ROUNDS: usize = 9;
+
+pub struct Times {
+    pub ours: Duration,
+    pub original: Duration,
+    /// Of as many calls of no request as the input has calls: what testing the store takes.
+    pub check: Duration,
+}
+
+pub fn measure(input: &Input) -> Times {
+    let mut best = Times { ours: Duration::MAX, original: Duration::MAX, check: Duration::MAX };
+    for _ in 0..ROUNDS {
+        let mut ours = Ours::new(input);
+        let mut original = Original::new(input);
+        best.ours = best.ours.min(timed(|| run(&mut ours, input)));
+        best.original = best.original.min(timed(|| run(&mut original, input)));
+        best.check = best.check.min(timed(|| ours.check(input.calls.len())));
+    }
+    best
+}
+
+/// Holds the two sides to the same replies, as far as the original knows them; answers the share of lookups that hit.
+pub fn compare(input: &Input) -> f64 {
+    let mut ours = Vec::new();
+    let mut original = Vec::new();
+    Ours::new(input).run(&input.calls, &mut |replies| ours.extend(known(replies)));
+    Original::new(input).run(&input.calls, &mut |replies| original.extend(known(replies)));
+    assert!(!ours.is_empty() && ours == original, "the replies differ");
+    let hits = ours.iter().filter(|reply| matches!(reply, Reply::Hit { .. })).count();
+    let misses = ours.iter().filter(|reply| matches!(reply, Reply::Nothing)).count();
+    hits as f64 / (hits + misses) as f64
+}
+
+/// The replies without what the original's calls do not tell.
+fn known(replies: &[u8]) -> Vec<Reply> {
+    let replies = Reply::read_all(replies).expect("replies are records");
+    let forget = |reply| match reply {
+        Reply::LeftSmall { .. } | Reply::LeftMain { .. } => Reply::LeftSmall { key: 0, value: 0 },
+        Reply::New { .. } => Reply::New { pops: 0 },
+        reply => reply,
+    };
+    replies.into_iter().map(forget).collect()
+}
+
+fn run(side: &mut dyn Side, input: &Input) {
+    side.run(&input.calls, &mut |replies| {
+        black_box(replies);
+    });
+}
+
+fn timed(work: impl FnOnce()) -> Duration {
+    let start = Instant::now();
+    work();
+    start.elapsed()
+}

@@ -1,0 +1,160 @@
+-- Demand 3 over the calls: whatever outcomes satisfy the exported statements, from a creation on, accepted calls with refused ones between.
+-- Assumes nothing.
+use mathlib.Core.Path.{_≡_, refl, sym, ap, ap₂, _∙_, subst}
+use mathlib.Core.Bool.{Bool, true, false, cond}
+use mathlib.Core.List.{List, [], _∷_, _++_, map}
+use Prim.Native.Nat.{ℕ, _≤_, _<_}
+use native.Mathlib.Omega.{arith}
+use lib.Dec.{ltb}
+use lib.ListN.{length, take, drop}
+use lib.Seq.{take-at}
+use borrow.Author.Tests.{ltb-false}
+use Rattle.cells.specs.Cells.{Bytes}
+use Rattle.rules.specs.State.{Limits, State, emptyAt, Fine, Sound}
+use Rattle.rules.specs.Records.{Request, Reply, AllSized, Outcome, tellFirst}
+use Rattle.rules.specs.Requests.{run}
+use Rattle.rules.specs.Bytes.{encodeAll, parse}
+use Rattle.rules.specs.Sizing.{Sized, limits, refused as misfit, sizing}
+use Rattle.rules.specs.Verdict.{Verdict, refused as turnedBy, done, Row, unless, storeBytes, createRows, onSized, create, Reads, short, damaged, reads, runRows, finished, call}
+use Rattle.rules.specs.Ledger.{Answered, history}
+use Rattle.rules.proofs.SoundLaws.{run-sound, empty-sound}
+use Rattle.rules.proofs.ParseLaws.{parse-sized}
+use Rattle.rules.proofs.RoomLaws.{encode-append}
+use Rattle.rules.proofs.LedgerLaws.{Demand3, demand-3-run, run-append, repliesOf, history-replies}
+use Rattle.sizing.specs.declared.Settings.{Settings}
+use Rattle.sizing.proofs.AcceptedLaws.{accepted-fine}
+use Rattle.store.specs.Holds.{Holds}
+use Rattle.s3_fifo.specs.declared.Creation.the-variants.{Made}
+use Rattle.s3_fifo.specs.declared.Ran.{Ran}
+use Rattle.s3_fifo.specs.declared.Ran.the-variants.{Done}
+use Rattle.s3_fifo.specs.Calls.{Said, gave, turned, createdSays, ranSays, ReadsAs, Settled, Leaves, Created, Called}
+use Rattle.s3_fifo.specs.Chains.{Chain, start, accepted, refused}
+use Rattle.s3_fifo.proofs.OnceLaws.{reads-once}
+
+-- ---- from an answer to the verdict's last word
+
+gave-not : {n m d : ℕ} → gave n ≡ turned m d → ⊥
+gave-not e = let z : _≡_ {A = ℕ} 0 1 = cc in omega arith
+
+-- an answer that is no refusal passed every row
+module _ (n : ℕ) (s s′ p p′ : List ℕ) where
+  row-passed : (t : Bool) (m d : ℕ) (v : Verdict) → Leaves (cond t (turnedBy m d) v) (gave n) s s′ p p′ → Leaves v (gave n) s s′ p p′
+  row-passed true m d v h = absurd (gave-not (h .0))
+  row-passed false m d v h = h
+
+  rows-passed : (rows : List Row) (v : Verdict) → Leaves (unless rows v) (gave n) s s′ p p′ → Leaves v (gave n) s s′ p p′
+  rows-passed [] v h = h
+  rows-passed (r ∷ rows) v h = rows-passed rows v (row-passed (r .when) (r .number) (r .detail) (unless rows v) h)
+
+-- one that is leaves the store as it was
+refused-same : (v : Verdict) (n d : ℕ) (a : Said) (s s′ p p′ : List ℕ) → Leaves v a s s′ p p′ → a ≡ turned n d → s′ ≡ s
+refused-same (turnedBy m e) n d a s s′ p p′ h r = h .1
+refused-same (done σ bs) n d a s s′ p p′ h r = absurd (gave-not (sym (h .0) ∙ r))
+
+-- ---- creation
+
+-- the limits, and that the store is long enough
+pub record Begun (s s′ : List ℕ) : Type 0 where
+  pub limits-are : Limits
+  pub fine : Fine limits-are
+  pub holds : Holds s′ (emptyAt limits-are)
+  pub long : storeBytes ≤ length s′
+
+begin : (a : Sized) {s s′ : List ℕ} → ((L : Limits) → a ≡ limits L → Fine L) → Leaves (onSized (length s) a) (gave 0) s s′ [] [] → Begun s s′
+begin (misfit n) f h = absurd (gave-not (h .0))
+begin (limits L) {s} {s′} f h = pick (ltb (length s) storeBytes) refl h
+  where
+    pick : (t : Bool) → ltb (length s) storeBytes ≡ t → Leaves (cond t (turnedBy 6 0) (done (emptyAt L) [])) (gave 0) s s′ [] [] → Begun s s′
+    pick true e g = absurd (gave-not (g .0))
+    pick false e g =
+        record { limits-are = L; fine = f L refl; holds = g .1 .holds; long = omega (arith, ltb-false (length s) storeBytes e, g .1 .same-length) }
+
+pub begun : {settings : Settings} {s s′ : List ℕ} → Created settings s Made s′ → Begun s s′
+unfolding create
+begun {settings} c =
+    begin (sizing (settings .capacity) (settings .«small_ratio») (settings .«ghost_ratio»)) (λ L e. accepted-fine (settings .capacity) (settings .«small_ratio») (settings .«ghost_ratio») e) (c .leaves)
+
+-- ---- a call that was accepted
+
+-- the store holds what the rules make of the state that it held, and the replies are the rules'
+pub record Served (σ : State) (q s′ p′ : List ℕ) (n : ℕ) : Type 0 where
+  pub holds : Holds s′ (run σ (parse q .requests) .state)
+  pub told : take n p′ ≡ encodeAll (run σ (parse q .requests) .replies)
+
+pub served : {s q p s′ p′ : List ℕ} {n : ℕ} {σ : State} → Holds s σ → storeBytes ≤ length s → Called s q p (Done n) s′ p′ → Served σ q s′ p′ n × (storeBytes ≤ length s′)
+unfolding call
+served {s} {q} {p} {s′} {p′} {n} {σ} h b c =
+    let e : c .store ≡ reads σ = reads-once s (c .store) (reads σ) (c .store-is) (b, h) in
+    let f : Leaves (call (reads σ) q (length p)) (gave n) s s′ p p′ = subst (λ (x : Reads). Leaves (call x q (length p)) (gave n) s s′ p p′) e (c .leaves) in
+    let bs : List ℕ = encodeAll (run σ (parse q .requests) .replies) in
+    let g = rows-passed n s s′ p p′ (runRows (length q) (parse q) (length p)) (finished (run σ (parse q .requests))) f in
+    let count : n ≡ length bs = said (g .0) in
+    (record { holds = g .1 .holds; told = ap₂ take count (g .2) ∙ take-at bs (drop (length bs) p) (length bs) refl }, omega (arith, g .1 .same-length))
+  where
+    said : {a b : ℕ} → gave a ≡ gave b → a ≡ b
+    said x = cc
+
+-- ---- the chain
+
+pub record Grown (s : List ℕ) (rs : List Request) (bs : List ℕ) : Type 0 where
+  pub limits-are : Limits
+  pub fine : Fine limits-are
+  pub sized : AllSized rs
+  pub holds : Holds s (run (emptyAt limits-are) rs .state)
+  pub told : bs ≡ encodeAll (run (emptyAt limits-are) rs .replies)
+  pub long : storeBytes ≤ length s
+
+sized-append : (a b : List Request) → AllSized a → AllSized b → AllSized (a ++ b)
+sized-append [] b h g = g
+sized-append (r ∷ a) b h g = (h .0, sized-append a b (h .1) g)
+
+grow : {s q p s′ p′ : List ℕ} {n : ℕ} {rs : List Request} {bs : List ℕ} → Grown s rs bs → Bytes q → Called s q p (Done n) s′ p′ → Grown s′ (rs ++ parse q .requests) (bs ++ take n p′)
+grow {s} {q} {p} {s′} {p′} {n} {rs} {bs} g b c =
+    let σ₀ : State = emptyAt (g .limits-are) in
+    let v = served (g .holds) (g .long) c in
+    let e : run σ₀ (rs ++ parse q .requests) ≡ tellFirst (run σ₀ rs .replies) (run (run σ₀ rs .state) (parse q .requests)) = run-append σ₀ rs (parse q .requests) in
+    record {
+      limits-are = g .limits-are;
+      fine = g .fine;
+      sized = sized-append rs (parse q .requests) (g .sized) (parse-sized q b);
+      holds = subst (Holds s′) (ap (λ (o : Outcome). o .state) (sym e)) (v .0 .holds);
+      told =
+          ap₂ (λ (x y : List ℕ). x ++ y) (g .told) (v .0 .told)
+          ∙ sym (encode-append (run σ₀ rs .replies) (run (run σ₀ rs .state) (parse q .requests) .replies))
+          ∙ ap (λ (o : Outcome). encodeAll (o .replies)) (sym e);
+      long = v .1;
+    }
+
+pub grown : {s : List ℕ} {rs : List Request} {bs : List ℕ} → Chain s rs bs → Grown s rs bs
+unfolding run encodeAll
+grown (start c) = let b = begun c in record { limits-are = b .limits-are; fine = b .fine; sized = tt; holds = b .holds; told = refl; long = b .long }
+grown (accepted h b c) = grow (grown h) b c
+grown (refused {s = s} {q = q} {p = p} {s′ = s′} {p′ = p′} {r = r} {rs = rs} {bs = bs} n d h c e) =
+    subst (λ (x : List ℕ). Grown x rs bs) (sym (refused-same (call (c .store) q (length p)) n d (ranSays r) s s′ p p′ (c .leaves) e)) (grown h)
+
+-- demand 3: of the state that the store holds after any such chain, and of all that was asked and answered
+pub record Kept (s : List ℕ) (rs : List Request) (bs : List ℕ) : Type 0 where
+  pub state : State
+  pub holds : Holds s state
+  pub seen : List Answered
+  pub asked : map (λ a. a .request) seen ≡ rs
+  pub told : encodeAll (repliesOf seen) ≡ bs
+  pub demand : Demand3 state seen
+
+history-asked : (σ : State) (rs : List Request) → map (λ a. a .request) (history σ rs) ≡ rs
+unfolding history
+history-asked σ [] = refl
+history-asked σ (r ∷ rs) = ap (λ l. r ∷ l) (history-asked _ rs)
+
+pub chain-keeps : {s : List ℕ} {rs : List Request} {bs : List ℕ} → Chain s rs bs → Kept s rs bs
+chain-keeps {s} {rs} {bs} c =
+    let g = grown c in
+    let σ₀ : State = emptyAt (g .limits-are) in
+    record {
+      state = run σ₀ rs .state;
+      holds = g .holds;
+      seen = history σ₀ rs;
+      asked = history-asked σ₀ rs;
+      told = ap encodeAll (history-replies σ₀ rs) ∙ sym (g .told);
+      demand = demand-3-run (g .limits-are) rs (g .fine) (g .sized);
+    }

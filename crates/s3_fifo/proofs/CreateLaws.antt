@@ -1,0 +1,55 @@
+-- The laws of creation: each answer, and the verdict that it is.
+-- Assumes nothing.
+use mathlib.Core.Path.{_≡_, refl, sym, ap, _∙_, subst}
+use mathlib.Core.Bool.{true, false}
+use mathlib.Core.List.{List, []}
+use Prim.Native.Nat.{ℕ, _≤_, _<_}
+use native.Mathlib.Omega.{arith}
+use lib.ListN.{length, drop}
+use borrow.Author.Tests.{lt-ltb, le-ltb}
+use Rattle.nodes.specs.Nodes.{used, Rest, cols}
+use Rattle.nodes.proofs.NodesLaws.{cols-rest}
+use Rattle.rules.specs.State.{most, emptyAt, Fine}
+use Rattle.rules.specs.Sizing.{limits, refused as misfit, sizing}
+use Rattle.rules.specs.Verdict.{storeBytes, create, onSized}
+use Rattle.sizing.specs.declared.Settings.{Settings}
+use Rattle.sizing.specs.declared.Limits.{Limits}
+use Rattle.sizing.specs.declared.Refusal.{Refusal}
+use Rattle.sizing.specs.declared.Sized.{Sized}
+use Rattle.sizing.specs.declared.Sized.the-variants.{Accepted, Refused as Misfit}
+use Rattle.sizing.specs.Answers.{limitsOf, numberOf, sizedOf, sizingOf}
+use Rattle.sizing.proofs.AcceptedLaws.{accepted-fine}
+use Rattle.store.specs.Holds.{shapeFor}
+use Rattle.store.specs.Created.{Created as CreatedIn}
+use Rattle.store.proofs.CreatedLaws.{created-holds}
+use Rattle.s3_fifo.specs.declared.Creation.{Creation}
+use Rattle.s3_fifo.specs.declared.Creation.the-variants.{Made, Refused, ShortStore}
+use Rattle.s3_fifo.specs.Calls.{Said, Settled, Leaves, Created, createdSays}
+
+module _ (settings : Settings) {r : Sized} (e : sizedOf r ≡ sizingOf most settings) where
+  sized-as : {q : Sized} → r ≡ q → sizing (settings .capacity) (settings .«small_ratio») (settings .«ghost_ratio») ≡ sizedOf q
+  sized-as h = sym e ∙ ap sizedOf h
+
+  -- refused by sizing
+  pub create-refused : {refusal : Refusal} → r ≡ Misfit refusal → (s : List ℕ) → Created settings s (Refused refusal) s
+  unfolding create
+  create-refused h s =
+      record { leaves = rw (sized-as h) (refl, refl, refl) }
+
+  module _ {l : Limits} (h : r ≡ Accepted l) where
+    pub create-fine : Fine (limitsOf l)
+    create-fine = accepted-fine (settings .capacity) (settings .«small_ratio») (settings .«ghost_ratio») (sized-as h)
+
+    pub create-short : {s : List ℕ} → length s < storeBytes → Created settings s ShortStore s
+    unfolding create
+    create-short {s} b = record { leaves = rw (sized-as h, lt-ltb (length s) storeBytes b) (refl, refl, refl) }
+
+    pub create-made : {s s′ : List ℕ} → storeBytes ≤ length s → CreatedIn (limitsOf l) s s′ → length s′ ≡ length s → Created settings s Made s′
+    unfolding create
+    create-made {s} {s′} b c n =
+        let z = shapeFor (limitsOf l) in
+        record {
+          leaves =
+              rw (sized-as h, le-ltb (length s) storeBytes b)
+              (refl, record { holds = created-holds c; surplus = sym (cols-rest z s′) ∙ c .rest ∙ cols-rest z s; same-length = n }, refl);
+        }

@@ -1,0 +1,5 @@
+pub mod CreateLaws
+pub mod RunLaws
+pub mod CallLaws
+pub mod OnceLaws
+pub mod ChainLaws

@@ -1,0 +1,110 @@
+-- No second outcome: two outcomes of one call that both satisfy its statement agree in the answer, the reply buffer, the state that the store holds, and
+-- all that stands behind it.
+-- Assumes nothing.
+use mathlib.Core.Path.{_≡_, refl, sym, ap, _∙_, subst}
+use mathlib.Core.Bool.{Bool, true, false, cond}
+use mathlib.Core.List.{List, [], _∷_, _++_}
+use Prim.Native.Nat.{ℕ, _≤_, _<_}
+use native.Mathlib.Omega.{arith}
+use lib.Dec.{eqb}
+use lib.ListN.{length, drop}
+use Rattle.nodes.specs.Nodes.{used}
+use Rattle.rules.specs.State.{State}
+use Rattle.rules.specs.Verdict.{Verdict, refused, done, storeBytes, create, Reads, short, damaged, reads, call}
+use Rattle.sizing.specs.declared.Settings.{Settings}
+use Rattle.sizing.specs.declared.Refusal.{Refusal}
+use Rattle.sizing.specs.declared.Refusal.the-variants.{NoCapacity, CapacityAbove, SmallRatio, GhostRatio, GhostLimit}
+use Rattle.store.specs.Holds.{shapeFor, Holds}
+use Rattle.store.proofs.HoldsLaws.{holds-once}
+use Rattle.s3_fifo.specs.declared.Creation.{Creation}
+use Rattle.s3_fifo.specs.declared.Creation.the-variants.{Made, Refused, ShortStore as Short·}
+use Rattle.s3_fifo.specs.declared.Ran.{Ran}
+use Rattle.s3_fifo.specs.declared.Ran.the-variants.{Done, ShortStore, DamagedStore, LongRequests, BadRecord, NoRoom}
+use Rattle.s3_fifo.specs.Calls.{Said, gave, turned, createdSays, ranSays, ReadsAs, Settled, Leaves, Created, Called}
+
+-- ---- the answer is known by what it says
+
+abbrev ranBy : Said → Ran
+ranBy (gave n) = Done n
+ranBy (turned n d) = cond (eqb n 6) ShortStore (cond (eqb n 7) DamagedStore (cond (eqb n 8) LongRequests (cond (eqb n 9) (BadRecord d) (NoRoom d))))
+
+ran-back : (r : Ran) → ranBy (ranSays r) ≡ r
+ran-back (Done n) = refl
+ran-back ShortStore = refl
+ran-back DamagedStore = refl
+ran-back LongRequests = refl
+ran-back (BadRecord at) = refl
+ran-back (NoRoom room) = refl
+
+pub ran-once : (r t : Ran) → ranSays r ≡ ranSays t → r ≡ t
+ran-once r t e = sym (ran-back r) ∙ ap ranBy e ∙ ran-back t
+
+abbrev createdBy : Said → Creation
+createdBy (gave n) = Made
+createdBy (turned n d) =
+    cond (eqb n 6) Short· (Refused (cond (eqb n 1) NoCapacity (cond (eqb n 2) CapacityAbove (cond (eqb n 3) SmallRatio (cond (eqb n 4) GhostRatio GhostLimit)))))
+
+created-back : (r : Creation) → createdBy (createdSays r) ≡ r
+created-back Made = refl
+created-back Short· = refl
+created-back (Refused NoCapacity) = refl
+created-back (Refused CapacityAbove) = refl
+created-back (Refused SmallRatio) = refl
+created-back (Refused GhostRatio) = refl
+created-back (Refused GhostLimit) = refl
+
+pub creation-once : (r t : Creation) → createdSays r ≡ createdSays t → r ≡ t
+creation-once r t e = sym (created-back r) ∙ ap createdBy e ∙ created-back t
+
+-- ---- a store reads as one thing
+
+pub reads-once : (s : List ℕ) (a b : Reads) → ReadsAs s a → ReadsAs s b → a ≡ b
+reads-once s short short h g = refl
+reads-once s short damaged h g = absurd (omega (arith, h, g .0))
+reads-once s short (reads σ) h g = absurd (omega (arith, h, g .0))
+reads-once s damaged short h g = absurd (omega (arith, g, h .0))
+reads-once s damaged damaged h g = refl
+reads-once s damaged (reads σ) h g = absurd (h .1 σ (g .1))
+reads-once s (reads σ) short h g = absurd (omega (arith, g, h .0))
+reads-once s (reads σ) damaged h g = absurd (g .1 σ (h .1))
+reads-once s (reads σ) (reads τ) h g = ap reads (holds-once (h .1) (g .1))
+
+-- ---- two stores that nobody can tell apart by what they hold
+
+pub record Agrees (s₁ s₂ : List ℕ) : Type 0 where
+  pub holds : (σ : State) → Holds s₁ σ → Holds s₂ σ
+  pub back : (σ : State) → Holds s₂ σ → Holds s₁ σ
+  pub surplus : (σ : State) → Holds s₁ σ → drop (used (shapeFor (σ .limits))) s₁ ≡ drop (used (shapeFor (σ .limits))) s₂
+  pub same-length : length s₁ ≡ length s₂
+
+agrees-self : (s : List ℕ) → Agrees s s
+agrees-self s = record { holds = λ σ h. h; back = λ σ h. h; surplus = λ σ h. refl; same-length = refl }
+
+settled-agrees : {s s₁ s₂ : List ℕ} {τ : State} → Settled s s₁ τ → Settled s s₂ τ → Agrees s₁ s₂
+settled-agrees {s} {s₁} {s₂} {τ} a b =
+    record {
+      holds = λ σ h. subst (Holds s₂) (holds-once (a .holds) h) (b .holds);
+      back = λ σ h. subst (Holds s₁) (holds-once (b .holds) h) (a .holds);
+      surplus = λ σ h. subst (λ (ρ : State). drop (used (shapeFor (ρ .limits))) s₁ ≡ drop (used (shapeFor (ρ .limits))) s₂) (holds-once (a .holds) h) (a .surplus ∙ sym (b .surplus));
+      same-length = a .same-length ∙ sym (b .same-length);
+    }
+
+-- what one verdict leaves is one thing
+leaves-once : (v : Verdict) (a b : Said) (s s₁ s₂ p p₁ p₂ : List ℕ) → Leaves v a s s₁ p p₁ → Leaves v b s s₂ p p₂ → (a ≡ b) × (p₁ ≡ p₂) × Agrees s₁ s₂
+leaves-once (refused n d) a b s s₁ s₂ p p₁ p₂ h g =
+    (h .0 ∙ sym (g .0), h .2 ∙ sym (g .2), subst (λ (x : List ℕ). Agrees s₁ x) (h .1 ∙ sym (g .1)) (agrees-self s₁))
+leaves-once (done σ bs) a b s s₁ s₂ p p₁ p₂ h g = (h .0 ∙ sym (g .0), h .2 ∙ sym (g .2), settled-agrees (h .1) (g .1))
+
+-- ---- the two calls
+
+pub created-once : {settings : Settings} {s s₁ s₂ : List ℕ} (r t : Creation) → Created settings s r s₁ → Created settings s t s₂ → (r ≡ t) × Agrees s₁ s₂
+created-once {settings} {s} {s₁} {s₂} r t c d =
+    let l = leaves-once (create (settings .capacity) (settings .«small_ratio») (settings .«ghost_ratio») (length s)) (createdSays r) (createdSays t) s s₁ s₂ [] [] [] (c .leaves) (d .leaves) in
+    (creation-once r t (l .0), l .2)
+
+pub called-once : {s q p s₁ s₂ p₁ p₂ : List ℕ} (r t : Ran) → Called s q p r s₁ p₁ → Called s q p t s₂ p₂ → (r ≡ t) × (p₁ ≡ p₂) × Agrees s₁ s₂
+called-once {s} {q} {p} {s₁} {s₂} {p₁} {p₂} r t c d =
+    let e : c .store ≡ d .store = reads-once s (c .store) (d .store) (c .store-is) (d .store-is) in
+    let f : Leaves (call (d .store) q (length p)) (ranSays r) s s₁ p p₁ = subst (λ (x : Reads). Leaves (call x q (length p)) (ranSays r) s s₁ p p₁) e (c .leaves) in
+    let l = leaves-once (call (d .store) q (length p)) (ranSays r) (ranSays t) s s₁ s₂ p p₁ p₂ f (d .leaves) in
+    (ran-once r t (l .0), l .1, l .2)

@@ -1,0 +1,40 @@
+-- `s3_fifo::run_all` meets its contract.
+-- Assumes nothing.
+use borrow.Author.Needs.{needs}
+use Rattle.s3_fifo.proofs.RunLaws.{Midway, midway-start, midway-held, midway-fits, midway-less, midway-next, midway-end, midway-unknown, midway-cut}
+use Prim.Native.Nat.{_-_}
+use lib.ListN.{length}
+use Rattle.s3_fifo.proofs.run_all.Statement.{statement}
+use Rattle.s3_fifo.proofs.run_all.Tie as tie
+
+abbrev Inv-loop : tie.InvT-loop
+Inv-loop store₀ z requests replies₀ at₀ out₀ store replies at out = Midway z store₀ store requests replies₀ replies at out
+
+abbrev μ-loop : tie.MeasureT-loop
+μ-loop store₀ z requests replies₀ at₀ out₀ store replies at out = length requests - at
+
+pub run-all-spec : {M : Type 1} → statement M
+run-all-spec =
+    tie.close
+    (tie.spec
+    Inv-loop
+    μ-loop
+    (λ c. midway-start (search needs) (search needs) (λ j. c .before .shared-slice-known .given j .fits))
+    (λ c κs. search needs)
+    (λ c. search needs)
+    (λ c κs. search midway-held)
+    (λ c κs. search midway-fits)
+    (λ c. search midway-less)
+    (λ c. search midway-next)
+    (λ c. search needs)
+    (λ c. search needs)
+    (λ c. search needs)
+    (λ c. search midway-unknown)
+    (λ c. search needs)
+    (λ c. search needs)
+    (λ c. search needs)
+    (λ c. search midway-cut)
+    (λ c. search needs)
+    (λ c. search needs)
+    (λ c. search needs)
+    (λ c. search midway-end))

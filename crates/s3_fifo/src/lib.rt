@@ -1,0 +1,155 @@
+// The mapping cache's whole calls (01, port order 10): creation, and running requests, as functions of the cache's own type. They ask nothing of their
+// caller: every byte that is lent is checked here, a call is turned away exactly in the cases of 01's table, and then no byte has changed.
+ghost use mathlib.Core.Path.{_≡_};
+ghost use Prim.Native.Nat.{_+_, _≤_};
+ghost use lib.ListN.{length};
+ghost use Rattle.rules.specs.Bytes.{encodeAll};
+ghost use Rattle.rules.specs.Verdict.{storeBytes};
+ghost use Rattle.wire.specs.Wire.{Wrote};
+ghost use Rattle.evict.specs.Evicts.{pushedOf};
+ghost use Rattle.requests.specs.Answers.{spokenOf};
+ghost use Rattle.store.specs.Holds.{Held};
+ghost use Rattle.s3_fifo.specs.Runs.{Ready, Runs};
+ghost use Rattle.s3_fifo.specs.Calls.{Created, Called};
+use evict::Pushed;
+use nodes::Shape;
+use requests::Spoken;
+use sizing::Refusal;
+use sizing::Settings;
+use sizing::Sized;
+use soundness::Checked;
+use wire::Record;
+use wire::Reply;
+use wire::Stop;
+
+// What a creation answers.
+pub enum Creation {
+    Made,
+    Refused(Refusal),
+    ShortStore,
+}
+
+// What a call answers: the number of reply bytes, or why it was turned away.
+pub enum Ran {
+    Done(usize),
+    ShortStore,
+    DamagedStore,
+    LongRequests,
+    BadRecord(usize),
+    NoRoom(usize),
+}
+
+// Writes the reply of a pair that was pushed out.
+fn put_pushed(replies: &mut [u8], at: usize, pushed: Pushed) -> usize
+    requires { ⌜ at + length (encodeAll (pushedOf pushed)) ≤ length (now replies) ⌝ }
+    ensures { λ r. ⌜ Wrote (now (replies .entry)) at (encodeAll (pushedOf pushed)) (now (replies .exit)) r ⌝ }
+{
+    match pushed {
+        Pushed::Nothing => at,
+        Pushed::FromSmall(k, v) => wire::put_reply(replies, at, Reply::FromSmall(k, v)),
+        Pushed::FromMain(k, v) => wire::put_reply(replies, at, Reply::FromMain(k, v)),
+    }
+}
+
+// Writes what a request answered, and gives the offset after it.
+fn put_spoken(replies: &mut [u8], at: usize, spoken: Spoken) -> usize
+    requires { ⌜ at + length (encodeAll (spokenOf spoken)) ≤ length (now replies) ⌝ }
+    ensures { λ r. ⌜ Wrote (now (replies .entry)) at (encodeAll (spokenOf spoken)) (now (replies .exit)) r ⌝ }
+{
+    let pushed = spoken.pushed;
+    let closing = spoken.closing;
+    let middle = put_pushed(replies, at, pushed);
+    wire::put_reply(replies, middle, closing)
+}
+
+// Carries out all requests in order, where they are well formed and their replies have room.
+fn run_all(store: &mut [u8], z: Shape, requests: &[u8], replies: &mut [u8]) -> usize
+    requires { ⌜ Held z (now store) ⌝ }
+    requires { ⌜ Ready (now requests) (now replies) ⌝ }
+    ensures { λ r. ⌜ Runs z (now (store .entry)) (now (store .exit)) (now (requests .entry)) (now (replies .entry)) (now (replies .exit)) r ⌝ }
+{
+    let mut at = 0;
+    let mut out = 0;
+    loop {
+        let read = wire::next(requests, at);
+        match read {
+            Record::Ask(q, after) => {
+                let spoken = requests::apply(store, z, q);
+                out = put_spoken(replies, out, spoken);
+                at = after;
+            }
+            Record::Unknown => return out,
+            Record::Cut => return out,
+            Record::End => return out,
+        }
+    }
+}
+
+// A call on a store that holds a state: what its requests are turned away for, or their run.
+fn run_sound(store: &mut [u8], z: Shape, requests: &[u8], replies: &mut [u8]) -> Ran
+    requires { ⌜ Held z (now store) × (storeBytes ≤ length (now store)) ⌝ }
+    ensures { λ r. ⌜ Called (now (store .entry)) (now (requests .entry)) (now (replies .entry)) r (now (store .exit)) (now (replies .exit)) ⌝ }
+{
+    if rules::MOST_REQUEST_BYTES < requests.len() {
+        return Ran::LongRequests;
+    }
+    let survey = wire::survey_all(requests);
+    let stop = survey.stop;
+    match stop {
+        Stop::Unknown => Ran::BadRecord(survey.at),
+        Stop::Cut => Ran::BadRecord(survey.at),
+        Stop::Whole => {
+            let room = survey.room;
+            if replies.len() < room {
+                return Ran::NoRoom(room);
+            }
+            let out = run_all(store, z, requests, replies);
+            Ran::Done(out)
+        }
+    }
+}
+
+// The cache's own type. The cache itself stands in a store that the caller lends.
+pub struct S3FifoCache;
+
+impl S3FifoCache {
+    pub const MAX_FREQ: u8 = rules::MAX_FREQ;
+
+    pub const DEFAULT_SMALL_RATIO: f64 = sizing::DEFAULT_SMALL_RATIO;
+
+    pub const DEFAULT_GHOST_RATIO: f64 = sizing::DEFAULT_GHOST_RATIO;
+
+    // The one fixed size of a store.
+    pub const STORE_BYTES: usize = 57600;
+
+    // Creates a cache in the store, whatever bytes it held before.
+    pub fn create(settings: Settings, store: &mut [u8]) -> Creation
+        ensures { λ r. ⌜ Created settings (now (store .entry)) r (now (store .exit)) ⌝ }
+    {
+        let sized = sizing::size(settings);
+        match sized {
+            Sized::Refused(refusal) => Creation::Refused(refusal),
+            Sized::Accepted(limits) => {
+                if store.len() < S3FifoCache::STORE_BYTES {
+                    return Creation::ShortStore;
+                }
+                store::set_up(store, limits);
+                Creation::Made
+            }
+        }
+    }
+
+    // Runs requests on the cache in the store, in order, and writes their replies. Soundness is tested once a call.
+    pub fn run(store: &mut [u8], requests: &[u8], replies: &mut [u8]) -> Ran
+        ensures { λ r. ⌜ Called (now (store .entry)) (now (requests .entry)) (now (replies .entry)) r (now (store .exit)) (now (replies .exit)) ⌝ }
+    {
+        if store.len() < S3FifoCache::STORE_BYTES {
+            return Ran::ShortStore;
+        }
+        let checked = soundness::check(store);
+        match checked {
+            Checked::Damaged => Ran::DamagedStore,
+            Checked::Sound(z) => run_sound(store, z, requests, replies),
+        }
+    }
+}

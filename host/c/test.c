@@ -1,0 +1,412 @@
+/* A host in C: the worked traces, every refusal on both sides of its limit, and random calls with a ledger.
+ *
+ * Each buffer of a call is a heap block of exactly its length, so that the address sanitizer sees a byte too many
+ * on this side, and valgrind one inside the library.
+ *
+ * usage: test [random calls [file]]: the file gets the store as trace D leaves it, for tools that read stores. */
+#include "mapcache.h"
+
+#include <math.h>
+#include <stdio.h>
+#include <stdlib.h>
+#include <string.h>
+
+static unsigned long checks, failures;
+
+static void check(int holds, const char *what, int line)
+{
+    checks++;
+    if (!holds) {
+        failures++;
+        fprintf(stderr, "test.c:%d: not so: %s\n", line, what);
+    }
+}
+#define CHECK(x) check((x) ? 1 : 0, #x, __LINE__)
+
+/* ---- buffers */
+
+struct buffer {
+    uint8_t *bytes;
+    size_t len;
+};
+
+/* A block of exactly len bytes, all of them `fill`. No pointer may be NULL, so a block of 0 bytes is one of 1 byte. */
+static struct buffer block(size_t len, uint8_t fill)
+{
+    struct buffer b = {malloc(len ? len : 1), len};
+    if (b.bytes == NULL) {
+        fprintf(stderr, "test.c: no memory for %zu bytes\n", len);
+        exit(2);
+    }
+    memset(b.bytes, fill, len ? len : 1);
+    return b;
+}
+
+static struct buffer copy(struct buffer from)
+{
+    struct buffer b = block(from.len, 0);
+    memcpy(b.bytes, from.bytes, from.len);
+    return b;
+}
+
+static int same(struct buffer a, struct buffer b)
+{
+    return a.len == b.len && memcmp(a.bytes, b.bytes, a.len) == 0;
+}
+
+static uint64_t number_at(const uint8_t *p)
+{
+    uint64_t n = 0;
+    for (int i = 7; i >= 0; i--)
+        n = n << 8 | p[i];
+    return n;
+}
+
+/* ---- records */
+
+struct record {
+    char mark[3];
+    int fields;
+    uint64_t a, b;
+};
+
+static const struct record no_more = {"", 0, 0, 0};
+
+static size_t write_record(uint8_t *out, struct record r)
+{
+    uint64_t field[2] = {r.a, r.b};
+    size_t n = 0;
+    out[n++] = (uint8_t)r.mark[0];
+    out[n++] = (uint8_t)r.mark[1];
+    for (int f = 0; f < r.fields; f++)
+        for (int i = 0; i < 8; i++)
+            out[n++] = (uint8_t)(field[f] >> 8 * i);
+    return n;
+}
+
+static struct buffer written(const struct record *records)
+{
+    size_t n = 0, count = 0;
+    while (records[count].mark[0])
+        n += 2 + 8 * (size_t)records[count++].fields;
+    struct buffer b = block(n, 0);
+    n = 0;
+    for (size_t i = 0; i < count; i++)
+        n += write_record(b.bytes + n, records[i]);
+    return b;
+}
+
+#define GT(k) {"GT", 1, k, 0}
+#define PK(k) {"PK", 1, k, 0}
+#define RM(k) {"RM", 1, k, 0}
+#define IN(k, v) {"IN", 2, k, v}
+#define EV {"EV", 0, 0, 0}
+#define CL {"CL", 0, 0, 0}
+#define MI {"MI", 0, 0, 0}
+#define OK {"OK", 0, 0, 0}
+#define HI(v) {"HI", 1, v, 0}
+#define RE(v) {"RE", 1, v, 0}
+#define NW(n) {"NW", 1, n, 0}
+#define GO(v) {"GO", 1, v, 0}
+#define EX(k, v) {"EX", 2, k, v}
+#define ES(k, v) {"ES", 2, k, v}
+#define EM(k, v) {"EM", 2, k, v}
+
+/* ---- calls */
+
+static struct buffer created(uint64_t capacity, double small_ratio, double ghost_ratio, size_t len)
+{
+    struct buffer store = block(len, 0xA5);
+    CHECK(mapcache_create(capacity, small_ratio, ghost_ratio, store.bytes, store.len) == 0);
+    return store;
+}
+
+/* Runs a call, and checks what holds of every call: *detail is written, and a refusal changes nothing. */
+static int64_t run(struct buffer store, struct buffer requests, struct buffer replies, uint64_t *detail)
+{
+    struct buffer store_before = copy(store), requests_before = copy(requests), replies_before = copy(replies);
+    *detail = 0xDDDDDDDDDDDDDDDD;
+    int64_t answer = mapcache_run(store.bytes, store.len, requests.bytes, requests.len, replies.bytes, replies.len, detail);
+    CHECK(*detail != 0xDDDDDDDDDDDDDDDD);
+    CHECK(same(requests, requests_before));
+    if (answer < 0) {
+        CHECK(same(store, store_before) && same(replies, replies_before));
+    } else {
+        size_t n = (size_t)answer;
+        CHECK(*detail == 0 && n <= replies.len);
+        CHECK(memcmp(replies.bytes + n, replies_before.bytes + n, replies.len - n) == 0);
+    }
+    free(store_before.bytes);
+    free(requests_before.bytes);
+    free(replies_before.bytes);
+    return answer;
+}
+
+/* The requests in one call give exactly these replies. */
+static void gives(struct buffer store, const struct record *asked, const struct record *told, int line)
+{
+    struct buffer requests = written(asked), expected = written(told), replies = block(4096, 0xEE);
+    uint64_t detail;
+    int64_t n = run(store, requests, replies, &detail);
+    int as_expected = n == (int64_t)expected.len && memcmp(replies.bytes, expected.bytes, expected.len) == 0;
+    check(as_expected, "the replies are those expected", line);
+    free(requests.bytes);
+    free(expected.bytes);
+    free(replies.bytes);
+}
+#define RECORDS(...) (const struct record[]){__VA_ARGS__, no_more}
+#define GIVES(store, asked, told) gives(store, asked, told, __LINE__)
+
+/* ---- the worked traces */
+
+static void trace_a(void)
+{
+    struct buffer s = created(1, 0.1, 0.9, MAPCACHE_STORE_BYTES);
+    GIVES(s, RECORDS(IN(7, 70), IN(8, 80), IN(7, 71)), RECORDS(NW(0), ES(7, 70), NW(1), ES(8, 80), NW(1)));
+    GIVES(s, RECORDS(PK(7), PK(8), RM(8), RM(7), EV), RECORDS(HI(71), MI, MI, GO(71), MI));
+    free(s.bytes);
+}
+
+/* Traces B, C, D and E go on with one store. Where a file is named it gets the store after D. */
+static void traces_b_to_e(const char *file)
+{
+    struct buffer s = created(2, 0.1, 0.9, MAPCACHE_STORE_BYTES);
+    GIVES(s, RECORDS(IN(1, 10), GT(1), IN(2, 20), IN(3, 30)), RECORDS(NW(0), HI(10), NW(0), ES(2, 20), NW(2)));
+    GIVES(s, RECORDS(IN(2, 21)), RECORDS(ES(3, 30), NW(1)));
+    GIVES(s, RECORDS(GT(1), GT(1), GT(1), GT(1), GT(2), IN(4, 40)),
+          RECORDS(HI(10), HI(10), HI(10), HI(10), HI(21), EM(2, 21), NW(4)));
+    if (file != NULL) {
+        FILE *out = fopen(file, "wb");
+        CHECK(out != NULL && fwrite(s.bytes, 1, s.len, out) == s.len && fclose(out) == 0);
+    }
+    GIVES(s, RECORDS(EV), RECORDS(ES(4, 40), EX(1, 10)));
+    GIVES(s, RECORDS(EV), RECORDS(MI));
+    free(s.bytes);
+}
+
+static void traces_f_to_h(void)
+{
+    struct buffer s = created(1, 0.1, 0.9, MAPCACHE_STORE_BYTES);
+    GIVES(s, RECORDS(IN(7, 70), EV), RECORDS(NW(0), ES(7, 70), MI));
+    free(s.bytes);
+    s = created(2, 1.0, 0.9, MAPCACHE_STORE_BYTES);
+    GIVES(s, RECORDS(IN(1, 10), IN(2, 20), IN(3, 30)), RECORDS(NW(0), NW(0), ES(1, 10), NW(1)));
+    free(s.bytes);
+    s = created(1, 0.1, 0.0, MAPCACHE_STORE_BYTES);
+    GIVES(s, RECORDS(IN(7, 70), IN(8, 80), IN(7, 71)), RECORDS(NW(0), ES(7, 70), NW(1), ES(8, 80), NW(1)));
+    /* with no ghosts 7 came back to Small, so it leaves from there */
+    GIVES(s, RECORDS(IN(9, 90)), RECORDS(ES(7, 71), NW(1)));
+    free(s.bytes);
+}
+
+static void clear_and_largest(void)
+{
+    const uint64_t most = UINT64_MAX;
+    struct buffer s = created(3, 0.1, 0.9, MAPCACHE_STORE_BYTES);
+    GIVES(s, RECORDS(IN(0, 0), IN(most, most), GT(0), PK(most), IN(0, most)), RECORDS(NW(0), NW(0), HI(0), HI(most), RE(0)));
+    GIVES(s, RECORDS(CL, GT(0), EV), RECORDS(OK, MI, MI));
+    free(s.bytes);
+}
+
+/* ---- refusals */
+
+static void refuses_to_create(int number, uint64_t capacity, double small_ratio, double ghost_ratio, size_t len)
+{
+    struct buffer store = block(len, 0xA5), before = copy(store);
+    CHECK(mapcache_create(capacity, small_ratio, ghost_ratio, store.bytes, store.len) == -number);
+    CHECK(same(store, before));
+    free(store.bytes);
+    free(before.bytes);
+}
+
+static void creations_refused(void)
+{
+    const size_t len = MAPCACHE_STORE_BYTES;
+    refuses_to_create(MAPCACHE_CAPACITY_ZERO, 0, NAN, NAN, 0);
+    refuses_to_create(MAPCACHE_CAPACITY_LARGE, 1025, NAN, NAN, 0);
+    refuses_to_create(MAPCACHE_CAPACITY_LARGE, UINT64_MAX, 0.1, 0.9, len);
+    refuses_to_create(MAPCACHE_SMALL_RATIO_BAD, 1024, NAN, NAN, 0);
+    refuses_to_create(MAPCACHE_SMALL_RATIO_BAD, 1, INFINITY, 0.9, len);
+    refuses_to_create(MAPCACHE_SMALL_RATIO_BAD, 1, 1.0000000000000002, 0.9, len);
+    refuses_to_create(MAPCACHE_SMALL_RATIO_BAD, 1, -0.0, 0.9, len);
+    refuses_to_create(MAPCACHE_GHOST_RATIO_BAD, 1, 1.0, NAN, 0);
+    refuses_to_create(MAPCACHE_GHOST_RATIO_BAD, 1, 1.0, INFINITY, len);
+    refuses_to_create(MAPCACHE_GHOST_RATIO_BAD, 1, 1.0, -0.0, len);
+    refuses_to_create(MAPCACHE_GHOST_LIMIT_LARGE, 1024, 0.1, 1.00048828125, 0);
+    refuses_to_create(MAPCACHE_GHOST_LIMIT_LARGE, 1024, 0.1, 1.7e308, len);
+    refuses_to_create(MAPCACHE_STORE_SHORT, 1024, 1.0, 1.0, len - 1);
+    refuses_to_create(MAPCACHE_STORE_SHORT, 1, 0.0, 0.0, 0);
+}
+
+static void is_refused(int number, uint64_t with, struct buffer store, struct buffer requests, size_t reply_len)
+{
+    struct buffer replies = block(reply_len, 0xEE);
+    uint64_t detail;
+    CHECK(run(store, requests, replies, &detail) == -number);
+    CHECK(detail == with);
+    free(replies.bytes);
+}
+
+static void runs_refused(void)
+{
+    struct buffer store = created(2, 0.1, 0.9, MAPCACHE_STORE_BYTES);
+    struct buffer insert = written(RECORDS(IN(1, 10))), insert_short = {insert.bytes, 17};
+    struct buffer unknown = written(RECORDS(GT(1), {"XX", 0, 0, 0}, GT(2)));
+    struct buffer most = block(MAPCACHE_MOST_REQUEST_BYTES, 0), long_one = block(MAPCACHE_MOST_REQUEST_BYTES + 1, 0);
+    struct buffer short_store = {store.bytes, store.len - 1}, nothing = {insert.bytes, 0};
+    for (size_t i = 0; i < most.len; i += 2)
+        memcpy(most.bytes + i, "CL", 2);
+
+    is_refused(MAPCACHE_STORE_SHORT, 0, short_store, long_one, 0);
+    is_refused(MAPCACHE_REQUESTS_LONG, 0, store, long_one, 0);
+    is_refused(MAPCACHE_RECORD_BAD, 10, store, unknown, 0);
+    is_refused(MAPCACHE_RECORD_BAD, 0, store, insert_short, 28);
+    is_refused(MAPCACHE_REPLIES_SHORT, 28, store, insert, 27);
+    is_refused(MAPCACHE_REPLIES_SHORT, 32768, store, most, 32767);
+
+    struct buffer replies = block(32768, 0xEE);
+    uint64_t detail;
+    CHECK(run(store, most, replies, &detail) == 32768);
+    CHECK(run(store, nothing, nothing, &detail) == 0);
+    replies.len = 28;
+    CHECK(run(store, insert, replies, &detail) == 10);
+
+    store.bytes[0] ^= 4; /* another capacity than the one that the lists are made for */
+    is_refused(MAPCACHE_STORE_DAMAGED, 0, store, long_one, 0);
+    free(store.bytes), free(insert.bytes), free(unknown.bytes), free(most.bytes), free(long_one.bytes), free(replies.bytes);
+}
+
+static void surplus_is_untouched(void)
+{
+    struct buffer s = created(1024, 1.0, 1.0, MAPCACHE_STORE_BYTES + 100);
+    for (uint64_t k = 0; k < 3000; k++) {
+        struct buffer requests = written(RECORDS(IN(k, k)));
+        uint8_t replies[28];
+        uint64_t detail;
+        int64_t n = mapcache_run(s.bytes, s.len, requests.bytes, requests.len, replies, sizeof replies, &detail);
+        CHECK(n == (k < 1024 ? 10 : 28));
+        free(requests.bytes);
+    }
+    for (size_t i = MAPCACHE_STORE_BYTES; i < s.len; i++)
+        CHECK(s.bytes[i] == 0xA5);
+    free(s.bytes);
+}
+
+/* ---- random calls: every pair that went in is resident or was handed out */
+
+#define KEYS 48
+#define CALL 12
+
+struct ledger {
+    int resident[KEYS];
+    uint64_t value[KEYS];
+    unsigned long left;
+};
+
+static uint64_t draw(uint64_t *seed, uint64_t below)
+{
+    *seed ^= *seed << 13, *seed ^= *seed >> 7, *seed ^= *seed << 17;
+    return *seed % below;
+}
+
+static struct record random_request(uint64_t *seed)
+{
+    uint64_t k = draw(seed, KEYS), v = draw(seed, 1000);
+    const struct record some[] = {GT(k), PK(k), RM(k), IN(k, v), IN(k, v), IN(k, v), GT(k), EV};
+    const struct record clear = CL;
+    return draw(seed, 100) == 0 ? clear : some[draw(seed, sizeof some / sizeof *some)];
+}
+
+static void pair_leaves(struct ledger *l, uint64_t k, uint64_t v)
+{
+    CHECK(k < KEYS && l->resident[k] && l->value[k] == v);
+    if (k < KEYS)
+        l->resident[k] = 0;
+    l->left++;
+}
+
+/* Books the replies to one request, and answers how many bytes they take. */
+static size_t book(struct ledger *l, struct record asked, const uint8_t *told)
+{
+    size_t at = 0;
+    uint64_t k = asked.a;
+    if (memcmp(told, "ES", 2) == 0 || memcmp(told, "EM", 2) == 0) {
+        CHECK(asked.mark[0] == 'I' || asked.mark[0] == 'E');
+        pair_leaves(l, number_at(told + 2), number_at(told + 10));
+        at = 18;
+    }
+    if (memcmp(told + at, "EX", 2) == 0) {
+        pair_leaves(l, number_at(told + at + 2), number_at(told + at + 10));
+        return at + 18;
+    }
+    if (memcmp(told + at, "OK", 2) == 0) {
+        memset(l->resident, 0, sizeof l->resident);
+        return at + 2;
+    }
+    if (memcmp(told + at, "MI", 2) == 0) {
+        CHECK(asked.mark[0] == 'E' || !l->resident[k]);
+        return at + 2;
+    }
+    uint64_t n = number_at(told + at + 2);
+    if (memcmp(told + at, "NW", 2) == 0)
+        CHECK(!l->resident[k] && (n > 0) == (at > 0));
+    else
+        CHECK(l->resident[k] && l->value[k] == n); /* HI, RE, GO: the value that the key had */
+    if (asked.mark[0] == 'R')
+        l->resident[k] = 0;
+    if (asked.mark[0] == 'I')
+        l->resident[k] = 1, l->value[k] = asked.b;
+    return at + 10;
+}
+
+static void random_calls(unsigned long calls)
+{
+    uint64_t seed = 88172645463325252;
+    unsigned long left = 0;
+    struct buffer store = {NULL, 0};
+    struct ledger ledger;
+    memset(&ledger, 0, sizeof ledger);
+    for (unsigned long call = 0; call < calls; call++) {
+        if (call % 64 == 0) {
+            free(store.bytes);
+            uint64_t capacity = 1 + draw(&seed, 20), small_tenths = draw(&seed, 11), ghost_tenths = draw(&seed, 21);
+            store = created(capacity, (double)small_tenths / 10, (double)ghost_tenths / 10, MAPCACHE_STORE_BYTES);
+            left += ledger.left;
+            memset(&ledger, 0, sizeof ledger);
+        }
+        struct record asked[CALL + 1];
+        size_t count = draw(&seed, CALL + 1);
+        for (size_t i = 0; i < count; i++)
+            asked[i] = random_request(&seed);
+        asked[count] = no_more;
+        struct buffer requests = written(asked), replies = block(36 * CALL, 0xEE);
+        uint64_t detail;
+        int64_t n = run(store, requests, replies, &detail);
+        size_t at = 0;
+        for (size_t i = 0; i < count; i++)
+            at += book(&ledger, asked[i], replies.bytes + at);
+        CHECK(n == (int64_t)at);
+        free(requests.bytes);
+        free(replies.bytes);
+    }
+    free(store.bytes);
+    left += ledger.left;
+    CHECK(left > 0 || calls == 0);
+    printf("c host: %lu random calls, %lu pairs pushed out or handed back, each one named\n", calls, left);
+}
+
+int main(int argc, char **argv)
+{
+    unsigned long calls = argc > 1 ? strtoul(argv[1], NULL, 10) : 20000;
+    CHECK(mapcache_store_bytes() == MAPCACHE_STORE_BYTES);
+    trace_a();
+    traces_b_to_e(argc > 2 ? argv[2] : NULL);
+    traces_f_to_h();
+    clear_and_largest();
+    creations_refused();
+    runs_refused();
+    surplus_is_untouched();
+    random_calls(calls);
+    printf("c host: %lu checks, %lu failed\n", checks, failures);
+    return failures != 0 || checks == 0;
+}

@@ -1,0 +1,69 @@
+//! The library's calls over slices. This file alone has unsafe code.
+
+use crate::ffi;
+use crate::refusal::Refusal;
+
+/// The largest capacity, and the largest ghost limit.
+pub const MOST: u64 = 1024;
+
+/// The most request bytes that one call takes.
+pub const MOST_REQUEST_BYTES: usize = 32_768;
+
+/// What a cache is made with.
+#[derive(Clone, Copy, Debug, PartialEq)]
+pub struct Settings {
+    /// How many pairs it holds, 1 to 1,024.
+    pub capacity: u64,
+    /// Small's limit as a part of the capacity.
+    pub small_ratio: f64,
+    /// The ghost limit as a part of the capacity.
+    pub ghost_ratio: f64,
+}
+
+impl Settings {
+    /// The default ratios.
+    pub fn with_capacity(capacity: u64) -> Settings {
+        Settings { capacity, small_ratio: 0.1, ghost_ratio: 0.9 }
+    }
+}
+
+/// The bytes that a store needs. A longer store is allowed; the surplus is neither read nor written.
+#[allow(unsafe_code)]
+pub fn store_bytes() -> usize {
+    // SAFETY: the call takes nothing and touches no memory.
+    let bytes = unsafe { ffi::mapcache_store_bytes() };
+    usize::try_from(bytes).expect("the library is for machines of 64 bits")
+}
+
+/// Makes the store an empty cache.
+#[allow(unsafe_code)]
+pub fn create(settings: Settings, store: &mut [u8]) -> Result<(), Refusal> {
+    let Settings { capacity, small_ratio, ghost_ratio } = settings;
+    // SAFETY: a slice's pointer is not null and good for its length; `&mut` means that no one else uses it.
+    let answer = unsafe { ffi::mapcache_create(capacity, small_ratio, ghost_ratio, store.as_mut_ptr(), store.len()) };
+    match answer {
+        0 => Ok(()),
+        refused => Err(Refusal::of(refused.unsigned_abs(), 0)),
+    }
+}
+
+/// Runs the requests, which are bytes, and answers how many reply bytes were written. [`Cache`](crate::Cache) does
+/// the same with typed requests and answers.
+#[allow(unsafe_code)]
+pub fn run(store: &mut [u8], requests: &[u8], replies: &mut [u8]) -> Result<usize, Refusal> {
+    let mut detail = 0;
+    // SAFETY: slices' pointers are not null, also at length 0, and good for their lengths; `&mut` and `&` borrowed
+    // together mean that the buffers do not overlap and that no other thread changes them; `detail` is our own.
+    let answer = unsafe {
+        ffi::mapcache_run(
+            store.as_mut_ptr(),
+            store.len(),
+            requests.as_ptr(),
+            requests.len(),
+            replies.as_mut_ptr(),
+            replies.len(),
+            &mut detail,
+        )
+    };
+    usize::try_from(answer).map_err(|_| Refusal::of(answer.unsigned_abs(), detail))
+}

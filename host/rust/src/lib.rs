@@ -1,0 +1,52 @@
+//! The proved mapping cache, for hosts in Rust.
+//!
+//! A cache maps guest blocks to physical blocks (S3-FIFO), in memory that the host lends. The library underneath,
+//! `libmapcache.a`, is proved to follow its rules for every input under four assumptions: no pointer is null, lengths
+//! are true, the buffers do not overlap, and no other thread uses them meanwhile. Here they cannot be broken: slices
+//! give the first two, and `&mut` gives the others.
+//!
+//! ```
+//! use mapcache::{Cache, GuestBlock, Inserted, Pair, PhysicalBlock, Queue, Left, Settings};
+//!
+//! let mut cache = Cache::new(Settings::with_capacity(1))?;
+//! let first = cache.insert(GuestBlock(7), PhysicalBlock(70))?;
+//! assert_eq!(first, Inserted::New { left: None, pops: 0 });
+//!
+//! // the cache is full: the insert says which pair left
+//! let second = cache.insert(GuestBlock(8), PhysicalBlock(80))?;
+//! let pair = Pair { guest: GuestBlock(7), physical: PhysicalBlock(70) };
+//! assert_eq!(second.left(), Some(Left { pair, from: Queue::Small }));
+//! assert_eq!(cache.get(GuestBlock(7))?, None);
+//! assert_eq!(cache.get(GuestBlock(8))?, Some(PhysicalBlock(80)));
+//! # Ok::<(), mapcache::Refusal>(())
+//! ```
+//!
+//! A guest block and a physical block are different kinds of number, so they cannot be mixed up:
+//!
+//! ```compile_fail,E0308
+//! # use mapcache::{Cache, GuestBlock, PhysicalBlock, Settings};
+//! let mut cache = Cache::new(Settings::with_capacity(1)).unwrap();
+//! let _ = cache.insert(PhysicalBlock(70), GuestBlock(7));
+//! ```
+//!
+//! Nor can one buffer be lent twice to a call:
+//!
+//! ```compile_fail,E0499
+//! let mut store = vec![0; mapcache::store_bytes()];
+//! let _ = mapcache::run(&mut store, b"EV", &mut store[..36]);
+//! ```
+#![deny(unsafe_code)]
+#![warn(missing_docs)]
+
+mod blocks;
+mod cache;
+mod call;
+pub mod ffi;
+mod record;
+mod refusal;
+
+pub use blocks::{GuestBlock, Left, Pair, PhysicalBlock, Queue};
+pub use cache::{in_calls, Cache};
+pub use call::{create, run, store_bytes, Settings, MOST, MOST_REQUEST_BYTES};
+pub use record::{Answer, Evicted, Inserted, Request};
+pub use refusal::Refusal;

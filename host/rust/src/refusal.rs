@@ -1,0 +1,101 @@
+//! Why a call was turned away.
+
+use std::error::Error;
+use std::fmt;
+
+/// Why a call was turned away. A call that is refused has changed nothing.
+#[derive(Clone, Copy, Debug, PartialEq, Eq, Hash)]
+pub enum Refusal {
+    /// 1: the capacity is 0.
+    CapacityZero,
+    /// 2: the capacity is above 1,024.
+    CapacityLarge,
+    /// 3: the small ratio is NaN, infinite, above 1, or has its sign bit set.
+    SmallRatio,
+    /// 4: the ghost ratio is NaN, infinite, or has its sign bit set.
+    GhostRatio,
+    /// 5: the ghost limit is above 1,024.
+    GhostLimit,
+    /// 6: the store is shorter than [`store_bytes`](crate::store_bytes).
+    StoreShort,
+    /// 7: the store is damaged.
+    StoreDamaged,
+    /// 8: the requests are longer than 32,768 bytes.
+    RequestsLong,
+    /// 9: the record at this offset of the requests has an unknown mark, or is cut short.
+    BadRecord {
+        /// Where the record starts.
+        offset: u64,
+    },
+    /// 10: the replies may need this many bytes, and there is less room.
+    RepliesShort {
+        /// The sum of the requests' reply rooms.
+        needed: u64,
+    },
+}
+
+impl Refusal {
+    /// The refusal that the library names by a number and a detail.
+    pub(crate) fn of(number: u64, detail: u64) -> Refusal {
+        match number {
+            1 => Refusal::CapacityZero,
+            2 => Refusal::CapacityLarge,
+            3 => Refusal::SmallRatio,
+            4 => Refusal::GhostRatio,
+            5 => Refusal::GhostLimit,
+            6 => Refusal::StoreShort,
+            7 => Refusal::StoreDamaged,
+            8 => Refusal::RequestsLong,
+            9 => Refusal::BadRecord { offset: detail },
+            10 => Refusal::RepliesShort { needed: detail },
+            _ => panic!("the library linked is not the one that this crate is for: it refuses with {number}"),
+        }
+    }
+
+    /// Its number, 1 to 10.
+    pub fn number(&self) -> u8 {
+        match self {
+            Refusal::CapacityZero => 1,
+            Refusal::CapacityLarge => 2,
+            Refusal::SmallRatio => 3,
+            Refusal::GhostRatio => 4,
+            Refusal::GhostLimit => 5,
+            Refusal::StoreShort => 6,
+            Refusal::StoreDamaged => 7,
+            Refusal::RequestsLong => 8,
+            Refusal::BadRecord { .. } => 9,
+            Refusal::RepliesShort { .. } => 10,
+        }
+    }
+
+    /// Its detail: an offset, a number of bytes, or 0 where there is none.
+    pub fn detail(&self) -> u64 {
+        match *self {
+            Refusal::BadRecord { offset } => offset,
+            Refusal::RepliesShort { needed } => needed,
+            _ => 0,
+        }
+    }
+}
+
+impl fmt::Display for Refusal {
+    fn fmt(&self, f: &mut fmt::Formatter<'_>) -> fmt::Result {
+        match self {
+            Refusal::CapacityZero => write!(f, "the capacity is 0"),
+            Refusal::CapacityLarge => write!(f, "the capacity is above 1,024"),
+            Refusal::SmallRatio => write!(f, "the small ratio is no number from 0 to 1"),
+            Refusal::GhostRatio => write!(f, "the ghost ratio is no finite number from 0 up"),
+            Refusal::GhostLimit => write!(f, "capacity times ghost ratio is above 1,024"),
+            Refusal::StoreShort => write!(f, "the store is too short"),
+            Refusal::StoreDamaged => write!(f, "the store is damaged"),
+            Refusal::RequestsLong => write!(f, "the requests are longer than 32,768 bytes"),
+            Refusal::BadRecord { offset } => write!(f, "the record at offset {offset} is unknown or cut short"),
+            Refusal::RepliesShort { needed } => {
+                write!(f, "the replies may need {needed} bytes, and there is less room")
+            },
+        }?;
+        write!(f, " (refusal {})", self.number())
+    }
+}
+
+impl Error for Refusal {}

@@ -1,0 +1,36 @@
+//! Replays recorded cases on the library.
+
+use differential::cases::{self, Case};
+use original::records::Settings;
+use std::fs;
+
+/// The length of the record CF.
+const SETTINGS: usize = 26;
+const REPLY_BUFFER: usize = 65_536;
+
+/// Replays the cases of a file; answers how many there are.
+pub fn replay(path: &str) -> Result<usize, String> {
+    let bytes = fs::read(path).map_err(|error| format!("{path}: {error}"))?;
+    let cases = cases::read(&bytes).map_err(|error| format!("{path}: {error}"))?;
+    for (number, case) in cases.iter().enumerate() {
+        replay_case(case).map_err(|error| format!("{path}, case {}: {error}", number + 1))?;
+    }
+    match cases.len() {
+        0 => Err(format!("{path} holds no case")),
+        count => Ok(count),
+    }
+}
+
+fn replay_case(case: &Case) -> Result<(), String> {
+    let (settings, requests) = case.input.split_at_checked(SETTINGS).ok_or("the record CF is cut short")?;
+    let mut store = vec![0; library::store_bytes()];
+    let mut replies = vec![0; REPLY_BUFFER];
+    let settings = Settings::read(settings).ok_or("the input does not open with CF")?;
+    library::create(settings, &mut store).map_err(|refusal| format!("{settings}: {refusal:?}"))?;
+    let written =
+        library::run(&mut store, requests, &mut replies).map_err(|refusal| format!("{settings}: {refusal:?}"))?;
+    match replies[..written] == case.output {
+        true => Ok(()),
+        false => Err(format!("{settings}: the replies differ")),
+    }
+}

@@ -1,0 +1,159 @@
+//! Records answers of the original: cases of settings and one call's requests, with the replies that the original gives.
+//! A program of the gate replays them on the proved calls, so that the comparison needs no Rust.
+
+use differential::cases::{self, Case};
+use differential::random::Random;
+use differential::settings;
+use differential::traffic::Traffic;
+use original::driver::Original;
+use original::records::{MOST_REQUEST_BYTES, Request, Settings};
+use std::env;
+use std::fs;
+use std::path::Path;
+use std::process::ExitCode;
+
+const USAGE: &str = "usage:
+  record write FOLDER   write the files of recorded answers to FOLDER
+  record check FOLDER   say whether the files in FOLDER are what the original answers";
+
+/// The program that replays the cases has a reply buffer of this length.
+const REPLY_BUFFER: usize = 65_536;
+const SEED: u64 = 1;
+
+struct File {
+    name: &'static str,
+    cases: Vec<Case>,
+}
+
+fn main() -> ExitCode {
+    let arguments: Vec<String> = env::args().skip(1).collect();
+    let words: Vec<&str> = arguments.iter().map(String::as_str).collect();
+    let done = match words.as_slice() {
+        ["write", folder] => files().iter().try_for_each(|file| write(Path::new(folder), file)),
+        ["check", folder] => files().iter().try_for_each(|file| check(Path::new(folder), file)),
+        _ => Err(USAGE.to_string()),
+    };
+    match done {
+        Ok(()) => ExitCode::SUCCESS,
+        Err(error) => {
+            eprintln!("record: {error}");
+            ExitCode::FAILURE
+        },
+    }
+}
+
+fn write(folder: &Path, file: &File) -> Result<(), String> {
+    let path = folder.join(file.name);
+    let bytes = cases::write(&file.cases);
+    fs::write(&path, &bytes).map_err(|error| format!("{}: {error}", path.display()))?;
+    println!("{}: {} cases, {} bytes", path.display(), file.cases.len(), bytes.len());
+    Ok(())
+}
+
+fn check(folder: &Path, file: &File) -> Result<(), String> {
+    let path = folder.join(file.name);
+    let bytes = fs::read(&path).map_err(|error| format!("{}: {error}", path.display()))?;
+    if bytes != cases::write(&file.cases) {
+        return Err(format!("{} is not what the original answers: run `make record`", path.display()));
+    }
+    println!("{}: {} cases are what the original answers", path.display(), file.cases.len());
+    Ok(())
+}
+
+fn files() -> [File; 3] {
+    let mut random = Random::new(SEED);
+    [
+        File { name: "few.bin", cases: few(&mut random) },
+        File { name: "many.bin", cases: many(&mut random) },
+        File { name: "most.bin", cases: most(&mut random) },
+    ]
+}
+
+/// Short runs at small capacities, where most requests meet a limit: every Small limit with few ghosts, and limits that
+/// hang on how a product is rounded.
+fn few(random: &mut Random) -> Vec<Case> {
+    let mut cases = Vec::new();
+    for capacity in 1..=5 {
+        let mut short = |settings, times| {
+            cases.extend((0..times).map(|_| random_case(settings, 2 * capacity + 8, random)));
+        };
+        for small_limit in 0..=capacity {
+            for ghost_limit in 0..=4 {
+                short(settings::exactly(capacity, small_limit, ghost_limit), 16);
+            }
+        }
+        for limit in 0..capacity {
+            for settings in settings::around_half(capacity, limit) {
+                short(settings, 8);
+            }
+        }
+    }
+    cases
+}
+
+/// Runs at every capacity to 64, long enough to fill it, and shorter ones at capacities up to the most.
+fn many(random: &mut Random) -> Vec<Case> {
+    let filled = 6..=64;
+    let larger = (64..=settings::MOST_CAPACITY).step_by(48);
+    let mut cases: Vec<Case> =
+        filled.map(|capacity| random_case(settings::any(capacity, random), 3 * capacity + 20, random)).collect();
+    cases.extend(larger.map(|capacity| random_case(settings::any(capacity, random), 80, random)));
+    cases
+}
+
+/// Runs as long as a call can be, at capacities that they fill.
+fn most(random: &mut Random) -> Vec<Case> {
+    [1, 100, 333, 1024]
+        .into_iter()
+        .map(|capacity| random_case(settings::default_of(capacity), u64::MAX, random))
+        .collect()
+}
+
+/// At most so many random requests, then evictions that bring to light what is left, as far as one call has room.
+fn random_case(settings: Settings, count: u64, random: &mut Random) -> Case {
+    let mut original = Original::create(settings).expect("valid settings");
+    let limits = original.state();
+    let mut traffic = Traffic::new(Random::new(random.number()), settings.capacity, limits.ghost_limit);
+    let mut call = Call::default();
+    let mut left = count;
+    while left > 0 && call.add(traffic.request()) {
+        left -= 1;
+    }
+    let drain = settings.capacity.min(count / 4);
+    (0..drain).for_each(|_| {
+        call.add(Request::Evict);
+    });
+    call.answered_by(settings, &mut original)
+}
+
+/// Requests that are accepted as one call, by their bytes and by their reply room.
+#[derive(Default)]
+struct Call {
+    requests: Vec<Request>,
+    bytes: usize,
+    room: usize,
+}
+
+impl Call {
+    /// Adds a request if there is room for it.
+    fn add(&mut self, request: Request) -> bool {
+        let bytes = self.bytes + request.bytes();
+        let room = self.room + request.room();
+        let fits = bytes <= MOST_REQUEST_BYTES && room <= REPLY_BUFFER;
+        if fits {
+            self.requests.push(request);
+            (self.bytes, self.room) = (bytes, room);
+        }
+        fits
+    }
+
+    fn answered_by(&self, settings: Settings, original: &mut Original) -> Case {
+        let mut case = Case { input: Vec::new(), output: Vec::new() };
+        settings.write(&mut case.input);
+        for request in &self.requests {
+            request.write(&mut case.input);
+            original.answer(*request, &mut case.output);
+        }
+        case
+    }
+}

@@ -1,0 +1,82 @@
+//! What each call must answer, worked out from the bytes of its buffers alone.
+
+use crate::layout;
+use crate::state::State;
+use mapcache::Settings;
+
+pub const STORE_BYTES: usize = 57_600;
+pub const MOST_REQUEST_BYTES: usize = 32_768;
+
+#[derive(Clone, Debug, PartialEq)]
+pub enum Verdict {
+    Refused {
+        number: u8,
+        detail: u64,
+    },
+    /// The state afterwards and the reply bytes.
+    Done {
+        state: State,
+        replies: Vec<u8>,
+    },
+}
+
+fn refused(number: u8) -> Verdict {
+    Verdict::Refused { number, detail: 0 }
+}
+
+/// The marks with the bytes of their records and their reply room.
+const TABLE: [(&[u8; 2], usize, usize); 6] =
+    [(b"GT", 10, 10), (b"PK", 10, 10), (b"RM", 10, 10), (b"IN", 18, 28), (b"EV", 2, 36), (b"CL", 2, 2)];
+
+/// The reply room of all requests, or the offset of the first record that is none.
+pub fn reply_room(requests: &[u8]) -> Result<usize, usize> {
+    let (mut at, mut room) = (0, 0);
+    while at < requests.len() {
+        let rest = &requests[at..];
+        let row = TABLE.iter().find(|(mark, bytes, _)| rest.starts_with(*mark) && rest.len() >= *bytes);
+        let (_, bytes, reply) = row.ok_or(at)?;
+        at += bytes;
+        room += reply;
+    }
+    Ok(room)
+}
+
+pub fn of_run(store: &[u8], requests: &[u8], replies_len: usize) -> Verdict {
+    if store.len() < STORE_BYTES {
+        return refused(6);
+    }
+    let Some(mut state) = layout::state(store) else { return refused(7) };
+    if requests.len() > MOST_REQUEST_BYTES {
+        return refused(8);
+    }
+    match reply_room(requests) {
+        Err(offset) => Verdict::Refused { number: 9, detail: offset as u64 },
+        Ok(room) if replies_len < room => Verdict::Refused { number: 10, detail: room as u64 },
+        Ok(_) => {
+            let replies = state.run(requests);
+            Verdict::Done { state, replies }
+        },
+    }
+}
+
+pub fn of_create(settings: Settings, store_len: usize) -> Verdict {
+    let Settings { capacity, small_ratio, ghost_ratio } = settings;
+    let unfit = |ratio: f64| !ratio.is_finite() || ratio.is_sign_negative();
+    let limit = |ratio: f64| (capacity as f64 * ratio).round();
+    if capacity == 0 {
+        refused(1)
+    } else if capacity > layout::MOST {
+        refused(2)
+    } else if unfit(small_ratio) || small_ratio > 1.0 {
+        refused(3)
+    } else if unfit(ghost_ratio) {
+        refused(4)
+    } else if limit(ghost_ratio) > layout::MOST as f64 {
+        refused(5)
+    } else if store_len < STORE_BYTES {
+        refused(6)
+    } else {
+        let state = State::empty(capacity, limit(small_ratio) as u64, limit(ghost_ratio) as u64);
+        Verdict::Done { state, replies: Vec::new() }
+    }
+}

@@ -1,0 +1,21 @@
+-- `mapcache::created_code` meets its contract.
+-- Assumes nothing.
+use borrow.Author.Needs.{needs}
+use Rattle.mapcache.proofs.CodeLaws.{refused-code}
+use Rattle.mapcache.proofs.created_code.Statement.{statement}
+use Rattle.mapcache.proofs.created_code.Tie as tie
+
+ruleset laws = (needs, refused-code)
+
+pub created-code-spec : {M : Type 1} → statement M
+created-code-spec =
+    tie.close
+    (tie.spec
+    (λ c. search needs)
+    (λ c. search needs)
+    (λ c κs. search needs)
+    (λ c κs. search needs)
+    (λ c. search needs)
+    (λ c. cc)
+    (λ c. search laws)
+    (λ c. cc))

@@ -1,0 +1,98 @@
+// The library that hosts link (01, "When a call is turned away"): the cache's calls for C. A slice is a pointer and a length; an answer is one number,
+// the reply bytes or minus the refusal's number, and the refusal's detail goes out beside it. Each function states what the call below it states.
+ghost use mathlib.Core.Path.{_≡_};
+ghost use lib.IntN.{pos, negℤ};
+ghost use Rattle.rules.specs.Verdict.{storeBytes};
+ghost use Rattle.s3_fifo.specs.Calls.{createdSays, ranSays};
+ghost use Rattle.mapcache.specs.Codes.{codeOf, detailOf, Fits, CreatedAs, CalledAs};
+use s3_fifo::Creation;
+use s3_fifo::Ran;
+use s3_fifo::S3FifoCache;
+use sizing::Settings;
+
+// A refusal's number with a minus sign.
+fn minus(number: u8) -> i64
+    ensures { λ r. ⌜ r ≡ negℤ (pos number) ⌝ }
+{
+    -(number as i64)
+}
+
+// The number that stands for what a creation answers.
+fn created_code(created: Creation) -> i64
+    ensures { λ r. ⌜ r ≡ codeOf (createdSays created) ⌝ }
+{
+    match created {
+        Creation::Made => 0,
+        Creation::Refused(refusal) => minus(refusal.number()),
+        Creation::ShortStore => -6,
+    }
+}
+
+// The number that stands for what a call answers.
+fn ran_code(ran: Ran) -> i64
+    requires { ⌜ Fits ran ⌝ }
+    ensures { λ r. ⌜ r ≡ codeOf (ranSays ran) ⌝ }
+{
+    match ran {
+        Ran::Done(n) => n as i64,
+        Ran::ShortStore => -6,
+        Ran::DamagedStore => -7,
+        Ran::LongRequests => -8,
+        Ran::BadRecord(_) => -9,
+        Ran::NoRoom(_) => -10,
+    }
+}
+
+// The detail that goes with it.
+fn ran_detail(ran: Ran) -> u64
+    ensures { λ r. ⌜ r ≡ detailOf (ranSays ran) ⌝ }
+{
+    match ran {
+        Ran::Done(_) => 0,
+        Ran::ShortStore => 0,
+        Ran::DamagedStore => 0,
+        Ran::LongRequests => 0,
+        Ran::BadRecord(at) => at as u64,
+        Ran::NoRoom(room) => room as u64,
+    }
+}
+
+// The bytes that a store needs.
+#[no_mangle]
+pub extern "C" fn mapcache_store_bytes() -> u64
+    ensures { λ r. ⌜ r ≡ storeBytes ⌝ }
+{
+    S3FifoCache::STORE_BYTES as u64
+}
+
+#[no_mangle]
+pub extern "C" fn mapcache_create(
+    capacity: u64,
+    small_ratio: f64,
+    ghost_ratio: f64,
+    store: &mut [u8],
+) -> i64
+    ensures { λ r. ⌜ CreatedAs capacity «small_ratio» «ghost_ratio» (now (store .entry)) r (now (store .exit)) ⌝ }
+{
+    let settings = Settings {
+        capacity,
+        small_ratio,
+        ghost_ratio,
+    };
+    let created = S3FifoCache::create(settings, store);
+    created_code(created)
+}
+
+#[no_mangle]
+pub extern "C" fn mapcache_run(
+    store: &mut [u8],
+    requests: &[u8],
+    replies: &mut [u8],
+    detail: &mut u64,
+) -> i64
+    ensures { λ r. ⌜ CalledAs (now (store .entry)) (now (requests .entry)) (now (replies .entry)) r (now (detail .exit)) (now (store .exit)) (now (replies .exit)) ⌝ }
+{
+    let ran = S3FifoCache::run(store, requests, replies);
+    *detail = ran_detail(ran);
+    ran_code(ran)
+}

@@ -1,4 +1,5 @@
--- The worked rows of document 01 under a single statement: the sizing table, and the traces A to H from the settings that each starts with.
+-- The worked rows of document 01 under a single statement: the sizing table, and the traces A to H from the settings that each starts with, with one
+-- more for its last slip.
 -- Assumes nothing.
 use mathlib.Core.Path.{_≡_, refl}
 use mathlib.Core.Bool.{false}
@@ -147,6 +148,13 @@ traces =
       asked = allWritten (IN 7 70 ∷ IN 8 80 ∷ IN 7 71 ∷ []);
       told = encodeAll (NW 0 ∷ ES 7 70 ∷ NW 1 ∷ ES 8 80 ∷ NW 1 ∷ []);
       after = state 1 0 0 (entry 7 71 0 ∷ []) [] [];
+    }
+    -- key 0 and value 0 are a pair like any other
+    ∷ record {
+      start = defaults 1;
+      asked = allWritten (IN 0 0 ∷ GT 0 ∷ IN 1 10 ∷ []);
+      told = encodeAll (NW 0 ∷ HI 0 ∷ EM 0 0 ∷ NW 2 ∷ []);
+      after = state 1 0 1 (entry 1 10 0 ∷ []) [] [];
     }
     ∷ []
 

@@ -75,7 +75,7 @@ module _ (N K : ℕ) (nx pv q : List ℕ) (f : ℕ → List ℕ) (r : Pool N K n
           in-q = r .in-q;
         }
 
--- both at seg-once: tagged and given
+-- both at once: tagged and given
 pub pool-pushed : (N K : ℕ) (nx pv q : List ℕ) (f : ℕ → List ℕ) → Pool N K nx pv q f → (x : ℕ) → Absent K f x → x < N → (j : ℕ) → j < K
     → Pool N K (attachNx nx (N + j) x) (attachPv nx pv (N + j) x) (set q x j) (upd f j (x ∷ f j))
 pool-pushed N K nx pv q f r x o xN j jK =

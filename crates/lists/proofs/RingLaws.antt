@@ -87,7 +87,7 @@ module _ (N : ℕ) (nx pv : List ℕ) (s : ℕ) (l : List ℕ) (r : Ring N nx pv
         in-pv = simp length-set bp;
       }
 
--- a member of a ring: its neighbours point at it and are in reach, and it stands seg-once
+-- a member of a ring: its neighbours point at it and are in reach, and it stands once
 pub record Member (N : ℕ) (nx pv : List ℕ) (s : ℕ) (a : List ℕ) (x : ℕ) (b : List ℕ) : Type 0 where
   pub node : x < N
   pub next-back : getD pv (getD nx x 0) 0 ≡ x

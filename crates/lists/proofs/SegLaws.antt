@@ -58,7 +58,7 @@ module _ (nx pv : List ℕ) where
   pub no-return : (x : ℕ) (b : List ℕ) (v : ℕ) → Seg nx pv x b v → Out v b → Out x b
   no-return x b v h o = no-return-from x b v h o x b h o (le-refl (length b))
 
-  -- a member stands seg-once
+  -- a member stands once
   pub seg-once : (u : ℕ) (a : List ℕ) (x : ℕ) (b : List ℕ) (v : ℕ) → Seg nx pv u (a ++ x ∷ b) v → Out v (a ++ x ∷ b) → Out x a × Out x b
   seg-once u [] x b v h o = (tt, no-return x b v (h .1) (o .1))
   seg-once u (w ∷ a) x b v h o =

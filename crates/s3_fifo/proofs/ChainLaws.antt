@@ -10,9 +10,9 @@ use lib.ListN.{length, take, drop}
 use lib.Seq.{take-at}
 use borrow.Author.Tests.{ltb-false}
 use Rattle.cells.specs.Cells.{Bytes}
-use Rattle.rules.specs.State.{Limits, State, emptyAt, Fine, Sound}
-use Rattle.rules.specs.Records.{Request, Reply, AllSized, Outcome, tellFirst}
-use Rattle.rules.specs.Requests.{run}
+use Rattle.rules.specs.State.{Limits, State, emptyAt, keyed, residents, Fine, Sound}
+use Rattle.rules.specs.Records.{Request, IN, Reply, AllSized, Outcome, tellFirst}
+use Rattle.rules.specs.Requests.{apply, run}
 use Rattle.rules.specs.Bytes.{encodeAll, parse}
 use Rattle.rules.specs.Sizing.{Sized, limits, refused as misfit, sizing}
 use Rattle.rules.specs.Verdict.{Verdict, refused as turnedBy, done, Row, unless, storeBytes, createRows, onSized, create, Reads, short, damaged, reads, runRows, finished, call}
@@ -20,7 +20,7 @@ use Rattle.rules.specs.Ledger.{Answered, history}
 use Rattle.rules.proofs.SoundLaws.{run-sound, empty-sound}
 use Rattle.rules.proofs.ParseLaws.{parse-sized}
 use Rattle.rules.proofs.RoomLaws.{encode-append}
-use Rattle.rules.proofs.LedgerLaws.{Demand3, demand-3-run, run-append, repliesOf, history-replies}
+use Rattle.rules.proofs.LedgerLaws.{FullInsert, Demand3, demand-3-run, run-append, repliesOf, history-replies}
 use Rattle.sizing.specs.declared.Settings.{Settings}
 use Rattle.sizing.proofs.AcceptedLaws.{accepted-fine}
 use Rattle.store.specs.Holds.{Holds}
@@ -94,6 +94,21 @@ served {s} {q} {p} {s′} {p′} {n} {σ} h b c =
     said : {a b : ℕ} → gave a ≡ gave b → a ≡ b
     said x = cc
 
+-- ---- what an accepted call leaves never counts as damaged
+
+pub created-intact : {settings : Settings} {s s′ : List ℕ} → Created settings s Made s′ → ReadsAs s′ damaged → ⊥
+created-intact c d = let b = begun c in d .1 (emptyAt (b .limits-are)) (b .holds)
+
+intact : (s q p s′ p′ : List ℕ) (n : ℕ) (x : Reads) → ReadsAs s x → Leaves (call x q (length p)) (gave n) s s′ p p′ → ReadsAs s′ damaged → ⊥
+unfolding call
+intact s q p s′ p′ n short h l d = absurd (gave-not (l .0))
+intact s q p s′ p′ n damaged h l d = absurd (gave-not (l .0))
+intact s q p s′ p′ n (reads σ) h l d =
+    d .1 (run σ (parse q .requests) .state) (served {s = s} {q = q} {p = p} {s′ = s′} {p′ = p′} {n = n} {σ = σ} (h .1) (h .0) (record { store = reads σ; store-is = h; leaves = l }) .0 .holds)
+
+pub called-intact : {s q p s′ p′ : List ℕ} {n : ℕ} → Called s q p (Done n) s′ p′ → ReadsAs s′ damaged → ⊥
+called-intact {s} {q} {p} {s′} {p′} {n} c d = intact s q p s′ p′ n (c .store) (c .store-is) (c .leaves) d
+
 -- ---- the chain
 
 pub record Grown (s : List ℕ) (rs : List Request) (bs : List ℕ) : Type 0 where
@@ -157,4 +172,39 @@ chain-keeps {s} {rs} {bs} c =
       asked = history-asked σ₀ rs;
       told = ap encodeAll (history-replies σ₀ rs) ∙ sym (g .told);
       demand = demand-3-run (g .limits-are) rs (g .fine) (g .sized);
+    }
+
+-- ---- the full insert of demand 3, wherever in a chain it stands, also in the middle of a call
+
+sized-front : (a b : List Request) → AllSized (a ++ b) → AllSized a
+sized-front [] b h = tt
+sized-front (r ∷ a) b h = (h .0, sized-front a b (h .1))
+
+-- after the requests a, on the state before it, and with the requests b after it: what the insert did, and where its replies stand
+pub record FullWithin (L : Limits) (a : List Request) (k v : ℕ) (b : List Request) (bs : List ℕ) : Type 0 where
+  pub before : State
+  pub before-is : before ≡ run (emptyAt L) a .state
+  pub full : keyed k before ≡ 0 → residents before ≡ before .limits .capacity → FullInsert k v before (apply before (IN k v))
+  pub told : bs ≡ encodeAll (run (emptyAt L) a .replies) ++ (encodeAll (apply before (IN k v) .replies) ++ encodeAll (run (apply before (IN k v) .state) b .replies))
+
+told-within : (σ : State) (a : List Request) (r : Request) (b : List Request) → let τ = run σ a .state in
+    encodeAll (run σ (a ++ r ∷ b) .replies) ≡ encodeAll (run σ a .replies) ++ (encodeAll (apply τ r .replies) ++ encodeAll (run (apply τ r .state) b .replies))
+unfolding run
+told-within σ a r b =
+    let τ = run σ a .state in
+    ap (λ (o : Outcome). encodeAll (o .replies)) (run-append σ a (r ∷ b))
+    ∙ encode-append (run σ a .replies) (apply τ r .replies ++ run (apply τ r .state) b .replies)
+    ∙ ap (λ (l : List ℕ). encodeAll (run σ a .replies) ++ l) (encode-append (apply τ r .replies) (run (apply τ r .state) b .replies))
+
+pub full-within : (a : List Request) (k v : ℕ) (b : List Request) {s bs : List ℕ} {rs : List Request} (c : Chain s rs bs) → rs ≡ a ++ IN k v ∷ b
+    → FullWithin (grown c .limits-are) a k v b bs
+full-within a k v b {s} {bs} {rs} c e =
+    let g = grown c in
+    let σ₀ : State = emptyAt (g .limits-are) in
+    let z : AllSized (a ++ IN k v ∷ b) = subst AllSized e (g .sized) in
+    record {
+      before = run σ₀ a .state;
+      before-is = refl;
+      full = demand-3-run (g .limits-are) a (g .fine) (sized-front a (IN k v ∷ b) z) .full k v;
+      told = g .told ∙ ap (λ (l : List Request). encodeAll (run σ₀ l .replies)) e ∙ told-within σ₀ a (IN k v) b;
     }

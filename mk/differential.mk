@@ -49,7 +49,7 @@ differential: need-original $(ARCHIVE)
 departures: need-original $(ARCHIVE)
 	@$(DIFFERENTIAL) departures
 
-record: need-original
+record: need-original $(ARCHIVE)
 	@mkdir -p $(RECORDED)
 	@$(RECORD) write $(RECORDED)
 

@@ -1,0 +1,2 @@
+pub mod OutputLaws
+pub mod InputLaws

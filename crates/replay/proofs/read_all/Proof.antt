@@ -1,0 +1,45 @@
+-- `replay::read_all` meets its contract: the measure is the room that is left.
+-- Assumes nothing.
+use Prim.Native.Nat.{_≤_, _-_}
+use mathlib.Core.Path.{_≡_}
+use lib.ListN.{length}
+use borrow.Author.Needs.{needs}
+use Rattle.replay.proofs.InputLaws.{within-bytes}
+use Rattle.replay.proofs.read_all.Statement.{statement}
+use Rattle.replay.proofs.read_all.Tie as tie
+
+abbrev Inv-loop : tie.InvT-loop
+Inv-loop fd buf₀ done₀ buf done = (done ≤ length buf₀) × (length buf ≡ length buf₀)
+
+abbrev μ-loop : tie.MeasureT-loop
+μ-loop fd buf₀ done₀ buf done = length buf₀ - done
+
+add-done : tie.Need-add-done Inv-loop μ-loop
+add-done c = let w = within-bytes (c .before .n .given .1) (c .before .before .before .before .before .read-at .ensures) in search needs
+
+loop-less : tie.Need-loop-less Inv-loop μ-loop
+loop-less c = let w = within-bytes (c .before .n .given .1) (c .before .before .before .before .before .read-at .ensures) in search needs
+
+loop-again : tie.Need-loop-again Inv-loop μ-loop
+loop-again c = let w = within-bytes (c .before .n .given .1) (c .before .before .before .before .before .read-at .ensures) in search needs
+
+pub read-all-spec : {M : Type 1} → statement M
+read-all-spec =
+    tie.close
+    (tie.spec
+    Inv-loop
+    μ-loop
+    (λ c. search needs)
+    (λ c κs. search needs)
+    (λ c. search needs)
+    add-done
+    loop-less
+    loop-again
+    (λ c. search needs)
+    (λ c. search needs)
+    (λ c. search needs)
+    (λ c. search needs)
+    (λ c. search needs)
+    (λ c. search needs)
+    (λ c. search needs)
+    (λ c. search needs))

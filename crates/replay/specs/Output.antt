@@ -1,0 +1,43 @@
+-- What the program writes for what it reads: the verdict on its input, and the verdict as bytes.
+-- Assumes nothing.
+use mathlib.Core.Path.{_≡_}
+use mathlib.Core.List.{List, _++_}
+use Prim.Native.Nat.{ℕ}
+use lib.ListN.{length, drop}
+use Rattle.rules.specs.Bytes.{mark, bytesOf}
+use Rattle.rules.specs.Sizing.{Asked, asks, noSettings, settingsBytes, settingsOf}
+use Rattle.rules.specs.Verdict.{Verdict, refused, done, storeBytes, create, reads, call}
+use Rattle.wire.specs.Wire.{Wrote}
+use Rattle.s3_fifo.specs.Calls.{Said, gave, turned}
+
+-- the record of a refusal: NO, the number in one byte, the detail in 8
+abbrev pub noRecord : ℕ → ℕ → List ℕ
+noRecord n d = mark 78 79 ++ bytesOf 1 n ++ bytesOf 8 d
+
+abbrev pub noBytes : ℕ
+noBytes = 11
+
+-- a verdict as bytes
+abbrev pub shown : Verdict → List ℕ
+shown (refused n d) = noRecord n d
+shown (done σ bs) = bs
+
+-- what follows the settings is one call on the cache that they made, with so much room for the replies
+abbrev pub onCreated : Verdict → List ℕ → ℕ → Verdict
+onCreated (refused n d) q room = refused n d
+onCreated (done σ bs) q room = call (reads σ) q room
+
+-- wrong or short settings are refused first; the program's own store is long enough
+abbrev pub onAsked : Asked → List ℕ → ℕ → Verdict
+onAsked noSettings q room = refused 9 0
+onAsked (asks capacity small ghost) q room = onCreated (create capacity small ghost storeBytes) q room
+
+-- the output for an input
+unfoldable pub outputFor : List ℕ → ℕ → List ℕ
+unfolding settingsOf create call bytesOf
+outputFor s room = shown (onAsked (settingsOf s) (drop settingsBytes s) room)
+
+-- after a call: its replies stand already, and a refusal is written over what was there
+abbrev pub Finished : Said → List ℕ → List ℕ → ℕ → Type 0
+Finished (gave n) p p′ r = (r ≡ n) × (p′ ≡ p)
+Finished (turned n d) p p′ r = Wrote p 0 (noRecord n d) p′ r

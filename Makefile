@@ -13,7 +13,7 @@ include mk/programs.mk
 
 SOURCES := crates.txt $(shell find crates -name '*.rt' -o -name '*.antt')
 
-.PHONY: all library replay test store-example
+.PHONY: all library replay test store-example replay-streams
 
 # rt proves each crate once and keeps the result, so these cost little where nothing has changed.
 $(ARCHIVE): $(SOURCES)
@@ -33,8 +33,12 @@ store-example: $(ARCHIVE) | $(HOST)
 	@$(HOST)/trace_b > $(HOST)/trace_b.store
 	@python3 tests/store/compare.py docs/STORE.md $(HOST)/trace_b.store
 
+# The program on slow, long and broken streams.
+replay-streams: $(REPLAY)
+	@REPLAY='$(abspath $(REPLAY))' python3 tests/replay/test_streams.py
+
 # rt ci comes last: it begins by deleting target/, and its last line is the gate's.
 test:
 	rt fmt --check
-	$(MAKE) --no-print-directory host-test store-example replay-cases fuzz-gate differential-gate
+	$(MAKE) --no-print-directory host-test store-example replay-streams replay-cases fuzz-gate differential-gate
 	rt ci

@@ -11,6 +11,9 @@ include mk/host.mk
 include mk/differential.mk
 include mk/programs.mk
 
+# rt takes one command at a time.
+.NOTPARALLEL:
+
 SOURCES := crates.txt $(shell find crates -name '*.rt' -o -name '*.antt')
 
 .PHONY: all library replay test store-example replay-streams

@@ -1,0 +1,27 @@
+-- `recorded::all_are` is safe and ends: each turn takes one byte off what is left.
+-- Assumes nothing.
+use Prim.Native.Nat.{_-_}
+use lib.ListN.{length}
+use borrow.Author.Needs.{needs}
+use Rattle.recorded.proofs.all_are.Statement.{statement}
+use Rattle.recorded.proofs.all_are.Tie as tie
+
+abbrev Inv-loop : tie.InvT-loop
+Inv-loop s byte i₀ i = Unit {0}
+
+abbrev μ-loop : tie.MeasureT-loop
+μ-loop s byte i₀ i = length s - i
+
+pub all-are-spec : {M : Type 1} → statement M
+all-are-spec =
+    tie.close
+    (tie.spec
+    Inv-loop
+    μ-loop
+    (λ c. search needs)
+    (λ c. search needs)
+    (λ c. search needs)
+    (λ c. search needs)
+    (λ c. search needs)
+    (λ c. search needs)
+    (λ c. search needs))

@@ -1,0 +1,20 @@
+-- `recorded::created_told` meets its contract.
+-- Assumes nothing.
+use borrow.Author.Needs.{needs}
+use Rattle.recorded.proofs.created_told.Statement.{statement}
+use Rattle.recorded.proofs.created_told.Tie as tie
+
+pub created-told-spec : {M : Type 1} → statement M
+created-told-spec =
+    tie.close
+    (tie.spec
+    (λ c. search needs)
+    (λ c κs. search needs)
+    (λ c. search needs)
+    (λ c κs. search needs)
+    (λ c κs. search needs)
+    (λ c. search needs)
+    (λ c κs. search needs)
+    (λ c. cc)
+    (λ c. cc)
+    (λ c. cc))

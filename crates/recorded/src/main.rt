@@ -1,0 +1,523 @@
+// Recorded runs (01, "Traces A to H" and "When a call is turned away"): replays files of recorded calls over the library, and says of each file how
+// many gave what is written there. The last argument names a file of steps, those before it files of cases.
+// A case: lengths of input and output, 4 bytes each; the input, which is settings and requests; the output, which is their replies on a fresh store.
+// A step: what `Step` has, in 32 bytes; input; output. All steps of a file work on one store.
+ghost use mathlib.Core.Path.{_≡_};
+ghost use Prim.Native.Nat.{_≤_};
+ghost use lib.ListN.{length};
+ghost use Rattle.s3_fifo.specs.Calls.{gave, turned, createdSays, ranSays};
+ghost use Rattle.recorded.specs.Told.{told};
+use libc::STDOUT_FILENO;
+use s3_fifo::Creation;
+use s3_fifo::Ran;
+use s3_fifo::S3FifoCache;
+use sizing::Read;
+use sizing::Settings;
+
+// What stands in the reply buffer before a call, so that untouched bytes can be told.
+const UNTOUCHED: u8 = 165;
+
+// What replaying one case or step gave.
+enum Case {
+    Same,
+    Differs,
+    // The file ends before it.
+    End,
+    // It is cut short, or too long for the buffers.
+    Broken,
+}
+
+// An answer: the refusal's number and detail, or 0, 0 and the number of reply bytes.
+struct Told {
+    number: u64,
+    detail: u64,
+    count: usize,
+}
+
+// A step. Kind 0 fills the store with the byte `number`; 1 lays the input into it at `room`; 2 creates with the settings in the input; 3 runs the input's
+// requests with `room` bytes for replies. A call is lent the first `store` bytes, and must answer `number`, `detail` and the output.
+struct Step {
+    kind: u32,
+    store: usize,
+    room: usize,
+    number: u32,
+    input: usize,
+    output: usize,
+    detail: u64,
+}
+
+// What the cases so far gave.
+struct Tally {
+    taken: u64,
+    differ: u64,
+    going: bool,
+    whole: bool,
+}
+
+fn accepted(count: usize) -> Told
+    ensures { λ r. ⌜ r ≡ told (gave count) ⌝ }
+{
+    Told {
+        number: 0,
+        detail: 0,
+        count,
+    }
+}
+
+fn refused(number: u8, detail: usize) -> Told
+    ensures { λ r. ⌜ r ≡ told (turned number detail) ⌝ }
+{
+    Told {
+        number: number as u64,
+        detail: detail as u64,
+        count: 0,
+    }
+}
+
+fn created_told(created: Creation) -> Told
+    ensures { λ r. ⌜ r ≡ told (createdSays created) ⌝ }
+{
+    match created {
+        Creation::Made => accepted(0),
+        Creation::Refused(refusal) => refused(refusal.number(), 0),
+        Creation::ShortStore => refused(6, 0),
+    }
+}
+
+fn ran_told(ran: Ran) -> Told
+    ensures { λ r. ⌜ r ≡ told (ranSays ran) ⌝ }
+{
+    match ran {
+        Ran::Done(n) => accepted(n),
+        Ran::ShortStore => refused(6, 0),
+        Ran::DamagedStore => refused(7, 0),
+        Ran::LongRequests => refused(8, 0),
+        Ran::BadRecord(at) => refused(9, at),
+        Ran::NoRoom(room) => refused(10, room),
+    }
+}
+
+// Fills s with one byte.
+fn fill(s: &mut [u8], byte: u8) {
+    let mut i = 0;
+    while i < s.len() {
+        s[i] = byte;
+        i += 1;
+    }
+}
+
+// Whether all bytes of s are one byte.
+fn all_are(s: &[u8], byte: u8) -> bool {
+    let mut i = 0;
+    while i < s.len() {
+        if s[i] != byte {
+            return false;
+        }
+        i += 1;
+    }
+    true
+}
+
+// Reads exactly n bytes to the start of buf, and answers whether there were so many.
+fn read_part(fd: i32, buf: &mut [u8], n: usize) -> bool {
+    if n <= buf.len() {
+        let got = io::read_full(fd, &mut buf[0..n]);
+        got == n
+    } else {
+        false
+    }
+}
+
+// Whether a and b are the same from a place on.
+fn same_from(a: &[u8], b: &[u8], from: usize) -> bool {
+    if from <= a.len() && from <= b.len() {
+        check::same(&a[from..], &b[from..])
+    } else {
+        false
+    }
+}
+
+// Whether out starts with all of wanted, and the rest of it is untouched.
+fn wrote_only(out: &[u8], wanted: &[u8]) -> bool {
+    let n = wanted.len();
+    if n <= out.len() {
+        check::same(&out[0..n], wanted) && all_are(&out[n..], UNTOUCHED)
+    } else {
+        false
+    }
+}
+
+// From where on the store must be as before: all of it after a refusal, otherwise what stands behind the bytes that a cache needs.
+fn kept_from(t: Told) -> usize {
+    if t.number == 0 {
+        S3FifoCache::STORE_BYTES
+    } else {
+        0
+    }
+}
+
+// Creates in the first n bytes of the store.
+fn create_in(store: &mut [u8], n: usize, settings: Settings) -> Told {
+    if n <= store.len() {
+        let created = S3FifoCache::create(settings, &mut store[0..n]);
+        created_told(created)
+    } else {
+        refused(0, n)
+    }
+}
+
+// Runs on the first n bytes of the store, with the first m bytes for replies.
+fn run_in(store: &mut [u8], n: usize, requests: &[u8], out: &mut [u8], m: usize) -> Told {
+    if n <= store.len() && m <= out.len() {
+        let ran = S3FifoCache::run(&mut store[0..n], requests, &mut out[0..m]);
+        ran_told(ran)
+    } else {
+        refused(0, n)
+    }
+}
+
+// Copies all of piece to the start of part, and answers whether it fits.
+fn copy_into(piece: &[u8], part: &mut [u8]) -> bool {
+    if piece.len() <= part.len() {
+        bytes::copy(piece, part);
+        true
+    } else {
+        false
+    }
+}
+
+// Lays bytes into the store at a place, and answers whether they fit.
+fn lay(store: &mut [u8], at: usize, piece: &[u8]) -> bool {
+    if at <= store.len() {
+        copy_into(piece, &mut store[at..])
+    } else {
+        false
+    }
+}
+
+// A creation, and whether it answers and keeps what it should.
+fn create_step(s: Step, input: &[u8], store: &mut [u8], before: &mut [u8]) -> bool {
+    if !copy_into(store, before) {
+        return false;
+    }
+    match sizing::read_settings(input) {
+        Read::Bad => false,
+        Read::Asked(settings) => {
+            let t = create_in(store, s.store, settings);
+            t.number == s.number as u64 && same_from(store, before, kept_from(t))
+        }
+    }
+}
+
+// A call, and whether it answers, writes and keeps what it should.
+fn run_step(
+    s: Step,
+    input: &[u8],
+    output: &[u8],
+    store: &mut [u8],
+    before: &mut [u8],
+    out: &mut [u8],
+) -> bool {
+    if !copy_into(store, before) {
+        return false;
+    }
+    fill(out, UNTOUCHED);
+    let t = run_in(store, s.store, input, out, s.room);
+    t.number == s.number as u64
+        && t.detail == s.detail
+        && t.count == output.len()
+        && wrote_only(out, output)
+        && same_from(store, before, kept_from(t))
+}
+
+// One step, and whether it went as written.
+fn take_step(
+    s: Step,
+    input: &[u8],
+    output: &[u8],
+    store: &mut [u8],
+    before: &mut [u8],
+    out: &mut [u8],
+) -> bool {
+    let kind = s.kind;
+    match kind {
+        0 => {
+            fill(store, (s.number % 256) as u8);
+            true
+        }
+        1 => lay(store, s.room, input),
+        2 => create_step(s, input, store, before),
+        3 => run_step(s, input, output, store, before, out),
+        _ => false,
+    }
+}
+
+// One case: settings and requests on a fresh store.
+fn take_case(input: &[u8], output: &[u8], store: &mut [u8], out: &mut [u8]) -> bool {
+    match sizing::read_settings(input) {
+        Read::Bad => false,
+        Read::Asked(settings) => {
+            fill(out, UNTOUCHED);
+            let made = create_in(store, S3FifoCache::STORE_BYTES, settings);
+            if made.number == 0 && sizing::SETTINGS_BYTES <= input.len() {
+                let t = run_in(
+                    store,
+                    S3FifoCache::STORE_BYTES,
+                    &input[sizing::SETTINGS_BYTES..],
+                    out,
+                    out.len(),
+                );
+                t.number == 0 && t.count == output.len() && wrote_only(out, output)
+            } else {
+                false
+            }
+        }
+    }
+}
+
+// The step that 32 bytes hold.
+fn step_of(head: &[u8]) -> Step
+    requires { ⌜ 32 ≤ length (now head) ⌝ }
+{
+    Step {
+        kind: cells::get32(head, 0),
+        store: cells::get32(head, 4) as usize,
+        room: cells::get32(head, 8) as usize,
+        number: cells::get32(head, 12),
+        input: cells::get32(head, 16) as usize,
+        output: cells::get32(head, 20) as usize,
+        detail: cells::get64(head, 24),
+    }
+}
+
+fn went(well: bool) -> Case {
+    if well { Case::Same } else { Case::Differs }
+}
+
+// Takes the step s with the first bytes of input and output.
+fn step_with(
+    s: Step,
+    input: &[u8],
+    output: &[u8],
+    store: &mut [u8],
+    before: &mut [u8],
+    out: &mut [u8],
+) -> Case {
+    let n = s.input;
+    let m = s.output;
+    if n <= input.len() && m <= output.len() {
+        went(take_step(s, &input[0..n], &output[0..m], store, before, out))
+    } else {
+        Case::Broken
+    }
+}
+
+// Takes the case that is the first n bytes of input and the first m of output.
+fn case_with(
+    n: usize,
+    m: usize,
+    input: &[u8],
+    output: &[u8],
+    store: &mut [u8],
+    out: &mut [u8],
+) -> Case {
+    if n <= input.len() && m <= output.len() {
+        went(take_case(&input[0..n], &output[0..m], store, out))
+    } else {
+        Case::Broken
+    }
+}
+
+// The next step of a file.
+fn one_step(
+    fd: i32,
+    input: &mut [u8],
+    output: &mut [u8],
+    store: &mut [u8],
+    before: &mut [u8],
+    out: &mut [u8],
+) -> Case {
+    let mut head = [0u8; 32];
+    let got = io::read_full(fd, &mut head);
+    if got == 0 {
+        return Case::End;
+    }
+    if got < 32 {
+        return Case::Broken;
+    }
+    let s = step_of(&head);
+    if !read_part(fd, input, s.input) {
+        return Case::Broken;
+    }
+    if !read_part(fd, output, s.output) {
+        return Case::Broken;
+    }
+    step_with(s, input, output, store, before, out)
+}
+
+// The next case of a file.
+fn one_case(
+    fd: i32,
+    input: &mut [u8],
+    output: &mut [u8],
+    store: &mut [u8],
+    out: &mut [u8],
+) -> Case {
+    let mut head = [0u8; 8];
+    let got = io::read_full(fd, &mut head);
+    if got == 0 {
+        return Case::End;
+    }
+    if got < 8 {
+        return Case::Broken;
+    }
+    let n = cells::get32(&head, 0) as usize;
+    let m = cells::get32(&head, 4) as usize;
+    if !read_part(fd, input, n) {
+        return Case::Broken;
+    }
+    if !read_part(fd, output, m) {
+        return Case::Broken;
+    }
+    case_with(n, m, input, output, store, out)
+}
+
+fn more(n: u64) -> u64 {
+    if n < u64::MAX { n + 1 } else { n }
+}
+
+// Names what does not agree, by its number in the file, from 1 on.
+fn complain(number: u64) {
+    io::write_all(STDOUT_FILENO, b"not as recorded: number ");
+    io::print_decimal(STDOUT_FILENO, number);
+    io::write_all(STDOUT_FILENO, b"\n");
+}
+
+// The tally after one more.
+fn counted(t: Tally, c: Case) -> Tally {
+    match c {
+        Case::Same => Tally {
+            taken: more(t.taken),
+            differ: t.differ,
+            going: true,
+            whole: true,
+        },
+        Case::Differs => {
+            complain(more(t.taken));
+            Tally {
+                taken: more(t.taken),
+                differ: more(t.differ),
+                going: true,
+                whole: true,
+            }
+        }
+        Case::End => Tally {
+            taken: t.taken,
+            differ: t.differ,
+            going: false,
+            whole: true,
+        },
+        Case::Broken => Tally {
+            taken: t.taken,
+            differ: t.differ,
+            going: false,
+            whole: false,
+        },
+    }
+}
+
+// One more case or step.
+fn turn(
+    fd: i32,
+    steps: bool,
+    t: Tally,
+    input: &mut [u8],
+    output: &mut [u8],
+    store: &mut [u8],
+    before: &mut [u8],
+    out: &mut [u8],
+) -> Tally {
+    if steps {
+        let c = one_step(fd, input, output, store, before, out);
+        counted(t, c)
+    } else {
+        let c = one_case(fd, input, output, store, out);
+        counted(t, c)
+    }
+}
+
+// All of a file. Nothing says that a file ends, so the loop counts its turns down, from a number that no run uses up.
+fn replay_all(
+    fd: i32,
+    steps: bool,
+    input: &mut [u8],
+    output: &mut [u8],
+    store: &mut [u8],
+    before: &mut [u8],
+    out: &mut [u8],
+) -> Tally {
+    let mut t = Tally {
+        taken: 0,
+        differ: 0,
+        going: true,
+        whole: true,
+    };
+    let mut left = u64::MAX;
+    while left > 0 && t.going {
+        t = turn(fd, steps, t, input, output, store, before, out);
+        left -= 1;
+    }
+    t
+}
+
+fn print_tally(t: Tally) {
+    io::print_decimal(STDOUT_FILENO, t.taken);
+    io::write_all(STDOUT_FILENO, b" replayed, ");
+    io::print_decimal(STDOUT_FILENO, t.differ);
+    io::write_all(STDOUT_FILENO, b" differ");
+    if !t.whole {
+        io::write_all(STDOUT_FILENO, b", and the file is broken");
+    }
+    io::write_all(STDOUT_FILENO, b"\n");
+}
+
+fn replay_fd(fd: i32, steps: bool) {
+    let mut input = io::large_buffer();
+    let mut output = io::large_buffer();
+    let mut store = io::large_buffer();
+    let mut before = io::large_buffer();
+    let mut out = io::large_buffer();
+    print_tally(replay_all(
+        fd,
+        steps,
+        &mut input,
+        &mut output,
+        &mut store,
+        &mut before,
+        &mut out,
+    ));
+}
+
+// Replays the file that argument i names.
+fn replay_arg(i: usize, steps: bool) {
+    let mut path = io::buffer();
+    let n = os::arg(i, &mut path);
+    io::write_all(STDOUT_FILENO, &path[..n]);
+    let fd = os::open_read(&path[..n]);
+    if fd < 0 {
+        io::write_all(STDOUT_FILENO, b": cannot be opened\n");
+        return;
+    }
+    io::write_all(STDOUT_FILENO, b": ");
+    replay_fd(fd, steps);
+    libc::close(fd);
+}
+
+fn main() {
+    let count = os::arg_count();
+    let mut i = 1;
+    while i < count {
+        replay_arg(i, count - i == 1);
+        i += 1;
+    }
+}

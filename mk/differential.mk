@@ -18,6 +18,7 @@ REQUESTS ?= 20000000
 GATE_SEED := 1
 GATE_REQUESTS := 4000000
 RECORDED := crates/recorded/data
+RECORDED_CASES := $(addprefix $(RECORDED)/,few.bin many.bin most.bin)
 
 HAVE_ORIGINAL := $(wildcard $(ORIGINAL)/src/policy/s3_fifo.rs)
 WITH_ORIGINAL = ORIGINAL='$(abspath $(ORIGINAL))' MAPCACHE_LIB_DIR='$(abspath $(dir $(ARCHIVE)))' \
@@ -31,7 +32,7 @@ BENCH = $(WITH_ORIGINAL) --manifest-path bench/Cargo.toml --bin bench --
 ifneq ($(HAVE_ORIGINAL),)
 differential-gate: $(ARCHIVE)
 	@$(RECORD) check $(RECORDED)
-	@$(DIFFERENTIAL) replay $(wildcard $(RECORDED)/*.bin)
+	@$(DIFFERENTIAL) replay $(RECORDED_CASES)
 	@$(DIFFERENTIAL) departures
 	@$(DIFFERENTIAL) run $(GATE_SEED) $(GATE_REQUESTS)
 else

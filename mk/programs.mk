@@ -3,10 +3,10 @@
 #   make replay-cases   pipes the recorded cases through the replay program and compares byte for byte
 #   make calls          writes the calls with document 01's answers anew (tools/make_calls.py)
 #
-# Whoever includes this has the rule that makes $(REPLAY).
+# Whoever includes this has the rule that makes $(REPLAY), and differential.mk for the names of the recorded cases.
 
 REPLAY ?= target/bin/replay
-CASES := crates/recorded/data/few.bin crates/recorded/data/many.bin crates/recorded/data/most.bin tests/replay/calls.bin
+CASES = $(RECORDED_CASES) tests/replay/calls.bin
 
 .PHONY: replay-cases calls
 

@@ -23,7 +23,7 @@ use Rattle.rules.proofs.SoundLaws.{warmth-most}
 use Rattle.store.specs.declared.QueueKind.{QueueKind}
 use Rattle.store.specs.declared.QueueKind.the-variants.{Small as Small·, Main as Main·}
 use Rattle.store.specs.Holds.{stateIn, Held, Becomes}
-use Rattle.store.specs.Seats.{kindOf}
+use Rattle.store.specs.Seats.{queueKind}
 use Rattle.evict.specs.declared.Turn.{Turn as Turn·}
 use Rattle.evict.specs.declared.Turn.the-variants.{Moved, Left}
 use Rattle.evict.specs.declared.Pushed.{Pushed}
@@ -61,10 +61,10 @@ module _ {z : Shape} {s₀ s : List ℕ} {n : ℕ} (g : Going z s₀ s n) where
 
   module _ {s₁ : List ℕ} {r : Turn·} (t : Steps z s s₁ r) where
     module _ {q : QueueKind} (e : r ≡ Moved q) where
-      turn-is : step (stateIn z s) ≡ moved (kindOf q) (stateIn z s₁)
+      turn-is : step (stateIn z s) ≡ moved (queueKind q) (stateIn z s₁)
       turn-is = t .turn ∙ rw e
 
-      moves : Moves (stateIn z s) (kindOf q) (stateIn z s₁)
+      moves : Moves (stateIn z s) (queueKind q) (stateIn z s₁)
       moves = rw turn-is at (step-law (stateIn z s))
 
       cooler : warmth (stateIn z s₁) < warmth (stateIn z s)
@@ -75,7 +75,7 @@ module _ {z : Shape} {s₀ s : List ℕ} {n : ℕ} (g : Going z s₀ s n) where
           record {
             held = t .held;
             some = omega (arith, g .some, moves-total one (λ p y. refl) moves);
-            on = g .on ∙ after-moved n (stateIn z s) (stateIn z s₁) (kindOf q) (g .held .sound .fine) (g .some) turn-is;
+            on = g .on ∙ after-moved n (stateIn z s) (stateIn z s₁) (queueKind q) (g .held .sound .fine) (g .some) turn-is;
             few = omega (arith, g .few, cooler);
             rest = t .rest ∙ g .rest;
             same = l ∙ g .same;
@@ -85,12 +85,12 @@ module _ {z : Shape} {s₀ s : List ℕ} {n : ℕ} (g : Going z s₀ s n) where
       unfolding heat
       going-less = cooler
 
-    pub going-end : {q : QueueKind} {k : GuestBlock} {v : PhysicalBlock} → r ≡ Left q k v → (w : Evicted·) → pushedOf (w .pushed) ≡ tell (kindOf q) (fresh (k .0) (v .0)) ∷ [] → w .pops ≡ n + 1
+    pub going-end : {q : QueueKind} {k : GuestBlock} {v : PhysicalBlock} → r ≡ Left q k v → (w : Evicted·) → pushedOf (w .pushed) ≡ tell (queueKind q) (fresh (k .0) (v .0)) ∷ [] → w .pops ≡ n + 1
         → Makes z s₀ s₁ (evict (stateIn z s₀)) w
     going-end {q} {k} {v} e w p c =
-        let turn : step (stateIn z s) ≡ left (kindOf q) (fresh (k .0) (v .0)) (stateIn z s₁) = t .turn ∙ rw e in
-        let all : evict (stateIn z s₀) ≡ record { state = stateIn z s₁; told = tell (kindOf q) (fresh (k .0) (v .0)) ∷ []; pops = n + 1 } =
-        g .on ∙ ap (after n) (evict-left (stateIn z s) (stateIn z s₁) (kindOf q) (fresh (k .0) (v .0)) (g .held .sound .fine) (g .some) turn) in
+        let turn : step (stateIn z s) ≡ left (queueKind q) (fresh (k .0) (v .0)) (stateIn z s₁) = t .turn ∙ rw e in
+        let all : evict (stateIn z s₀) ≡ record { state = stateIn z s₁; told = tell (queueKind q) (fresh (k .0) (v .0)) ∷ []; pops = n + 1 } =
+        g .on ∙ ap (after n) (evict-left (stateIn z s) (stateIn z s₁) (queueKind q) (fresh (k .0) (v .0)) (g .held .sound .fine) (g .some) turn) in
         rw all (record { becomes = record { keeps = t .held .keeps; state = refl; rest = t .rest ∙ g .rest }; told = p; pops = c })
 
 -- ---- eviction where the cache is full

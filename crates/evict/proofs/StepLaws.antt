@@ -8,7 +8,7 @@ use native.Mathlib.Omega.{arith}
 use lib.Dec.{ltb}
 use lib.ListN.{length}
 use borrow.Author.Tests.{lt-ltb, le-ltb}
-use Rattle.nodes.specs.Nodes.{Key, Value, Mark, Reads}
+use Rattle.nodes.specs.Nodes.{Key, Value, Freq, GetsField}
 use Rattle.nodes.specs.declared.Shape.{Shape}
 use Rattle.rules.specs.declared.GuestBlock.{GuestBlock}
 use Rattle.rules.specs.declared.PhysicalBlock.{PhysicalBlock}
@@ -21,7 +21,7 @@ use Rattle.rules.proofs.SoundLaws.{moved-sound, left-sound}
 use Rattle.store.specs.declared.QueueKind.{QueueKind}
 use Rattle.store.specs.declared.QueueKind.the-variants.{Small as Small·, Main as Main·}
 use Rattle.store.specs.Holds.{stateIn, Keeps, Held, Becomes}
-use Rattle.store.specs.Seats.{kindOf, Seat, Seated, Tail, Freed, SentBack}
+use Rattle.store.specs.Seats.{queueKind, Seat, Seated, Tail, Freed, SentBack}
 use Rattle.store.proofs.KeepsLaws.{seat-key, seat-value, seat-freq, seat-queue, seat-node}
 use Rattle.store.proofs.LookLaws.{tail-seated}
 use Rattle.ghost_list.specs.Ghosts.{Buries}
@@ -52,28 +52,28 @@ picks-some {z} {s} {q} p h = some-length (queueOf q (stateIn z s)) (λ n. let y 
 
 -- ---- what leaves
 
-pub leaves-small : {z : Shape} {s s′ : List ℕ} {x : ℕ} (q : QueueKind) → q ≡ Small· → Buries z s s′ x → Leaves z s s′ (kindOf q) x
+pub leaves-small : {z : Shape} {s s′ : List ℕ} {x : ℕ} (q : QueueKind) → q ≡ Small· → Buries z s s′ x → Leaves z s s′ (queueKind q) x
 leaves-small q e m = rw e (record { of = m .of })
 
-pub leaves-main : {z : Shape} {s s′ : List ℕ} {x : ℕ} (q : QueueKind) → q ≡ Main· → Freed z s s′ Main x → Leaves z s s′ (kindOf q) x
+pub leaves-main : {z : Shape} {s s′ : List ℕ} {x : ℕ} (q : QueueKind) → q ≡ Main· → Freed z s s′ Main x → Leaves z s s′ (queueKind q) x
 leaves-main {z} {s} {s′} {x} q e m = rw e (record { of = λ b y t. rw (← append-nil b) (m .of b y [] t) })
 
 -- a tail of a known queue
-pub tail-small : {z : Shape} {s : List ℕ} {x : ℕ} (q : QueueKind) → q ≡ Small· → Tail z s (kindOf q) x → Tail z s Small x
+pub tail-small : {z : Shape} {s : List ℕ} {x : ℕ} (q : QueueKind) → q ≡ Small· → Tail z s (queueKind q) x → Tail z s Small x
 tail-small q e t = rw e at t
 
-pub seated-main : {z : Shape} {s : List ℕ} {x : ℕ} (q : QueueKind) → q ≡ Main· → Tail z s (kindOf q) x → Seated z s Main x
+pub seated-main : {z : Shape} {s : List ℕ} {x : ℕ} (q : QueueKind) → q ≡ Main· → Tail z s (queueKind q) x → Seated z s Main x
 seated-main q e t = rw e at (tail-seated t)
 
 -- ---- the step
 
-pub cool-small : (q : QueueKind) (f : ℕ) → q ≡ Small· → 0 ≡ coolTo (kindOf q) f
+pub cool-small : (q : QueueKind) (f : ℕ) → q ≡ Small· → 0 ≡ coolTo (queueKind q) f
 cool-small q f e = rw e
 
-pub cool-none : (q : QueueKind) (f : ℕ) → q ≡ Main· → f ≡ 0 → 0 ≡ coolTo (kindOf q) f
+pub cool-none : (q : QueueKind) (f : ℕ) → q ≡ Main· → f ≡ 0 → 0 ≡ coolTo (queueKind q) f
 cool-none q f e h = rw (e, h)
 
-pub cool-main : (q : QueueKind) (f : ℕ) → q ≡ Main· → (f ≡ 0 → ⊥) → f - 1 ≡ coolTo (kindOf q) f
+pub cool-main : (q : QueueKind) (f : ℕ) → q ≡ Main· → (f ≡ 0 → ⊥) → f - 1 ≡ coolTo (queueKind q) f
 cool-main q f e h = let g : f - 1 ≡ pred f = omega arith in rw e g
 
 cool-is : (q : Queue) (e : Entry) → withFreq (coolTo q (e .freq)) e ≡ cool q e
@@ -84,7 +84,7 @@ pub tail-node : {z : Shape} {s : List ℕ} → Held z s → {q : Queue} {x : ℕ
 tail-node h t = omega (arith, seat-node (h .keeps) (t .seat))
 
 -- an entry that was sent back with its frequency cooled went back as the rules say
-pub went-back : {z : Shape} {s s′ : List ℕ} {q : Queue} {x f : ℕ} (t : Tail z s q x) → Reads z s Mark x f → SentBack z s s′ q x (coolTo q f) → Becomes z s s′ (back q (t .before) (t .entry) (stateIn z s))
+pub went-back : {z : Shape} {s s′ : List ℕ} {q : Queue} {x f : ℕ} (t : Tail z s q x) → GetsField z s Freq x f → SentBack z s s′ q x (coolTo q f) → Becomes z s s′ (back q (t .before) (t .entry) (stateIn z s))
 went-back {z} {s} {s′} {q} {x} {f} t g b =
     let e : Entry = t .entry in
     let σ : State = stateIn z s in
@@ -96,30 +96,30 @@ went-back {z} {s} {s′} {q} {x} {f} t g b =
       rest = r .rest;
     }
 
-module _ {z : Shape} {s : List ℕ} (h : Held z s) (q : QueueKind) (v : Picks z s (kindOf q)) {x : ℕ} (t : Tail z s (kindOf q) x) {f : ℕ} (g : Reads z s Mark x f) where
+module _ {z : Shape} {s : List ℕ} (h : Held z s) (q : QueueKind) (v : Picks z s (queueKind q)) {x : ℕ} (t : Tail z s (queueKind q) x) {f : ℕ} (g : GetsField z s Freq x f) where
   freq-is : f ≡ t .entry .freq
   freq-is = seat-freq (t .seat) g
 
-  pub steps-moved : 0 < f → {s′ : List ℕ} → SentBack z s s′ (kindOf q) x (coolTo (kindOf q) f) → Steps z s s′ (Moved q)
+  pub steps-moved : 0 < f → {s′ : List ℕ} → SentBack z s s′ (queueKind q) x (coolTo (queueKind q) f) → Steps z s s′ (Moved q)
   steps-moved w {s′} b =
       let e : Entry = t .entry in
       let σ : State = stateIn z s in
-      let n : step σ ≡ moved (kindOf q) (back (kindOf q) (t .before) e σ) =
-      step-moves σ (kindOf q) (t .before) e (v .picked) (seat-queue z s (t .seat)) (lt-ltb 0 (e .freq) (omega (arith, freq-is))) in
+      let n : step σ ≡ moved (queueKind q) (back (queueKind q) (t .before) e σ) =
+      step-moves σ (queueKind q) (t .before) e (v .picked) (seat-queue z s (t .seat)) (lt-ltb 0 (e .freq) (omega (arith, freq-is))) in
       let r = went-back t g b in
       record {
         held = record { keeps = r .keeps; sound = rw (r .state) (moved-sound n (h .sound)) };
-        turn = n ∙ ap (moved (kindOf q)) (sym (r .state));
+        turn = n ∙ ap (moved (queueKind q)) (sym (r .state));
         rest = r .rest;
       }
 
-  pub steps-left : f ≤ 0 → {a b : ℕ} → Reads z s Key x a → Reads z s Value x b → {s′ : List ℕ} → Leaves z s s′ (kindOf q) x
+  pub steps-left : f ≤ 0 → {a b : ℕ} → GetsField z s Key x a → GetsField z s Value x b → {s′ : List ℕ} → Leaves z s s′ (queueKind q) x
       → (k : GuestBlock) → k .0 ≡ a → (p : PhysicalBlock) → p .0 ≡ b → Steps z s s′ (Left q k p)
   steps-left w {a} {b} ra rb {s′} m k ek p ep =
       let e : Entry = t .entry in
       let σ : State = stateIn z s in
-      let n : step σ ≡ left (kindOf q) e (ghosted (kindOf q) e (setQueue (kindOf q) (t .before) σ)) =
-      step-leaves σ (kindOf q) (t .before) e (v .picked) (seat-queue z s (t .seat)) (le-ltb 0 (e .freq) (omega (arith, freq-is))) in
+      let n : step σ ≡ left (queueKind q) e (ghosted (queueKind q) e (setQueue (queueKind q) (t .before) σ)) =
+      step-leaves σ (queueKind q) (t .before) e (v .picked) (seat-queue z s (t .seat)) (le-ltb 0 (e .freq) (omega (arith, freq-is))) in
       let r = m .of (t .before) e (t .seat) in
       let zero-freq : e .freq ≡ 0 = omega (arith, freq-is) in
       let key : e .key ≡ k .0 = sym (ek ∙ seat-key (t .seat) ra) in
@@ -127,9 +127,9 @@ module _ {z : Shape} {s : List ℕ} (h : Held z s) (q : QueueKind) (v : Picks z 
       let pair : e ≡ fresh (k .0) (p .0) = (λ i. record { key = key i; value = value i; freq = zero-freq i }) in
       record {
         held = record { keeps = r .keeps; sound = rw (r .state) (left-sound n (h .sound)) };
-        turn = n ∙ ap₂ (left (kindOf q)) pair (sym (r .state));
+        turn = n ∙ ap₂ (left (queueKind q)) pair (sym (r .state));
         rest = r .rest;
       }
 
-pub back-cooled : {z : Shape} {s s′ : List ℕ} (q : QueueKind) (f : ℕ) {x m : ℕ} → m ≡ coolTo (kindOf q) f → SentBack z s s′ (kindOf q) x m → SentBack z s s′ (kindOf q) x (coolTo (kindOf q) f)
+pub back-cooled : {z : Shape} {s s′ : List ℕ} (q : QueueKind) (f : ℕ) {x m : ℕ} → m ≡ coolTo (queueKind q) f → SentBack z s s′ (queueKind q) x m → SentBack z s s′ (queueKind q) x (coolTo (queueKind q) f)
 back-cooled q f e b = rw e at b

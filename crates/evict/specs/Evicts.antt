@@ -10,7 +10,7 @@ use Rattle.rules.specs.Records.{Reply, ES, EM}
 use Rattle.rules.specs.Eviction.{Turn, moved, left, victim, ghosted, step, Evicted}
 use Rattle.store.specs.declared.QueueKind.{QueueKind}
 use Rattle.store.specs.Holds.{stateIn, Held, Becomes}
-use Rattle.store.specs.Seats.{kindOf, Seat}
+use Rattle.store.specs.Seats.{queueKind, Seat}
 use Rattle.evict.specs.declared.Turn.{Turn as Turn·}
 use Rattle.evict.specs.declared.Turn.the-variants.{Moved, Left}
 use Rattle.evict.specs.declared.Pushed.{Pushed}
@@ -24,8 +24,8 @@ coolTo Main n = pred n
 
 -- the turn that the code's is, into a state
 abbrev pub turnOf : Turn· → State → Turn
-turnOf (Moved q) τ = moved (kindOf q) τ
-turnOf (Left q k v) τ = left (kindOf q) (fresh (k .0) (v .0)) τ
+turnOf (Moved q) τ = moved (queueKind q) τ
+turnOf (Left q k v) τ = left (queueKind q) (fresh (k .0) (v .0)) τ
 
 -- what is told of a pair that was pushed out
 abbrev pub pushedOf : Pushed → List Reply

@@ -6,7 +6,7 @@ ghost use mathlib.Core.List.{[], _∷_};
 ghost use Rattle.rules.specs.State.{fresh, residents};
 ghost use Rattle.rules.specs.Eviction.{evict, evictIfFull, tell};
 ghost use Rattle.store.specs.Holds.{stateIn, Held};
-ghost use Rattle.store.specs.Seats.{kindOf, Tail, SentBack};
+ghost use Rattle.store.specs.Seats.{queueKind, Tail, SentBack};
 ghost use Rattle.evict.specs.Evicts.{coolTo, pushedOf, Picks, Steps, Makes, Leaves};
 use nodes::Shape;
 use rules::GuestBlock;
@@ -35,7 +35,7 @@ pub struct Evicted {
 // The queue whose tail is popped: Small above its limit, otherwise Main unless it is empty.
 fn victim(s: &[u8], z: Shape) -> QueueKind
     requires { ⌜ Held z (now s) ⌝ }
-    ensures { λ r. ⌜ Picks z (now (s .entry)) (kindOf r) ⌝ }
+    ensures { λ r. ⌜ Picks z (now (s .entry)) (queueKind r) ⌝ }
 {
     if store::small_limit_of(s, z) < store::len_of(s, z, QueueKind::Small) {
         return QueueKind::Small;
@@ -49,7 +49,7 @@ fn victim(s: &[u8], z: Shape) -> QueueKind
 // The frequency of an entry that goes back: 0 from Small, one less from Main.
 pub fn cooled(q: QueueKind, freq: usize) -> usize
     requires { ⌜ freq < 256 ⌝ }
-    ensures { λ r. ⌜ r ≡ coolTo (kindOf q) freq ⌝ }
+    ensures { λ r. ⌜ r ≡ coolTo (queueKind q) freq ⌝ }
     ensures { λ r. ⌜ r < 256 ⌝ }
 {
     match q {
@@ -65,8 +65,8 @@ pub fn cooled(q: QueueKind, freq: usize) -> usize
 
 // The last entry of a queue leaves; what leaves Small becomes a ghost.
 fn leave(s: &mut [u8], z: Shape, q: QueueKind, x: usize)
-    requires { ⌜ Held z (now s) × Tail z (now s) (kindOf q) x ⌝ }
-    ensures { λ _. ⌜ Leaves z (now (s .entry)) (now (s .exit)) (kindOf q) x ⌝ }
+    requires { ⌜ Held z (now s) × Tail z (now s) (queueKind q) x ⌝ }
+    ensures { λ _. ⌜ Leaves z (now (s .entry)) (now (s .exit)) (queueKind q) x ⌝ }
 {
     match q {
         QueueKind::Small => ghost_list::bury(s, z, x),
@@ -76,18 +76,18 @@ fn leave(s: &mut [u8], z: Shape, q: QueueKind, x: usize)
 
 // An entry goes to Main's head with its frequency cooled.
 pub fn go_back(s: &mut [u8], z: Shape, q: QueueKind, x: usize, freq: usize)
-    requires { ⌜ Held z (now s) × Tail z (now s) (kindOf q) x × (freq < 256) ⌝ }
-    ensures { λ _. ⌜ SentBack z (now (s .entry)) (now (s .exit)) (kindOf q) x (coolTo (kindOf q) freq) ⌝ }
+    requires { ⌜ Held z (now s) × Tail z (now s) (queueKind q) x × (freq < 256) ⌝ }
+    ensures { λ _. ⌜ SentBack z (now (s .entry)) (now (s .exit)) (queueKind q) x (coolTo (queueKind q) freq) ⌝ }
 {
     store::send_back(s, z, q, x, cooled(q, freq));
 }
 
 // The tail that was picked goes back or leaves, by its frequency.
 fn settle(s: &mut [u8], z: Shape, q: QueueKind, x: usize) -> Turn
-    requires { ⌜ Held z (now s) × Picks z (now s) (kindOf q) × Tail z (now s) (kindOf q) x ⌝ }
+    requires { ⌜ Held z (now s) × Picks z (now s) (queueKind q) × Tail z (now s) (queueKind q) x ⌝ }
     ensures { λ r. ⌜ Steps z (now (s .entry)) (now (s .exit)) r ⌝ }
 {
-    let freq = nodes::mark_of(s, z, x);
+    let freq = nodes::freq_of(s, z, x);
     if 0 < freq {
         go_back(s, z, q, x, freq);
         return Turn::Moved(q);
@@ -109,7 +109,7 @@ fn step(s: &mut [u8], z: Shape) -> Turn
 }
 
 fn pushed_from(q: QueueKind, k: GuestBlock, v: PhysicalBlock) -> Pushed
-    ensures { λ r. ⌜ pushedOf r ≡ tell (kindOf q) (fresh (k .0) (v .0)) ∷ [] ⌝ }
+    ensures { λ r. ⌜ pushedOf r ≡ tell (queueKind q) (fresh (k .0) (v .0)) ∷ [] ⌝ }
 {
     match q {
         QueueKind::Small => Pushed::FromSmall(k, v),

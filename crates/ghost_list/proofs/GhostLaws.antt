@@ -9,7 +9,7 @@ use native.Mathlib.Omega.{arith}
 use lib.Dec.{eqb, ltb}
 use lib.ListN.{length}
 use borrow.Author.Tests.{eq-eqb, lt-ltb, le-ltb, ltb-true, ltb-false}
-use Rattle.nodes.specs.Nodes.{Key, Rest, cols, Reads}
+use Rattle.nodes.specs.Nodes.{Key, Rest, cols, GetsField}
 use Rattle.nodes.specs.declared.Shape.{Shape}
 use Rattle.rules.specs.declared.GuestBlock.{GuestBlock}
 use Rattle.rules.specs.Parts.{bit, total, Pop, popped, popTail, Split, missing, found, splitBy}
@@ -24,7 +24,7 @@ use Rattle.store.specs.Holds.{stateIn, Keeps, Held, Becomes}
 use Rattle.store.specs.declared.QueueKind.{QueueKind}
 use Rattle.store.specs.declared.Spot.{Spot}
 use Rattle.store.specs.declared.Spot.the-variants.{Resident, Ghost, Absent}
-use Rattle.store.specs.Seats.{kindOf, Seat, Tail, Grave, Buried, Oldest, Laid, Exhumed, Fronted, CanHaunt}
+use Rattle.store.specs.Seats.{queueKind, Seat, Tail, Grave, Buried, Oldest, Laid, Exhumed, Fronted, CanHaunt}
 use Rattle.store.specs.Looks.{Sits, Haunts, Lacks, Looks}
 use Rattle.store.proofs.KeepsLaws.{grave-key, grave-ghosts, seat-queue, becomes-then}
 use Rattle.ghost_list.specs.declared.Given.{Given as Given·}
@@ -55,7 +55,7 @@ lost-none {z} {s} k e h =
     let w = lru-none (stateIn z s .ghosts) (nil (stateIn z s .ghosts) (sym e ∙ h)) in
     record { gave = record { becomes = rw w (same-ghosts z s k); back = rw w } }
 
-pub lost-last : {z : Shape} {s s′ : List ℕ} {x : ℕ} → Oldest z s x → {k : ℕ} → Reads z s Key x k → Exhumed z s s′ x → (g : GuestBlock) → g .0 ≡ k → Lost z s s′ (Key· g)
+pub lost-last : {z : Shape} {s s′ : List ℕ} {x : ℕ} → Oldest z s x → {k : ℕ} → GetsField z s Key x k → Exhumed z s s′ x → (g : GuestBlock) → g .0 ≡ k → Lost z s s′ (Key· g)
 lost-last {z} {s} {s′} {x} o {k} r m g e =
     let w : evictLru (stateIn z s .ghosts) ≡ record { ghosts = o .before; back = some (o .key) } =
     ap evictLru (grave-ghosts z s (o .grave)) ∙ lru-last (o .before) (o .key) in
@@ -84,7 +84,7 @@ module _ {z : Shape} {s : List ℕ} {k : ℕ} where
   pub took-resident : Held z s → {r : Spot} → Looks z s k r → {q : QueueKind} {x : ℕ} → r ≡ Resident q x → Took z s s k false
   took-resident h l {q} {x} e =
       let t = l .resident q x e in
-      let m = in-queue (kindOf q) (stateIn z s) (t .before) (t .entry) (t .after) (seat-queue z s (t .seat)) in
+      let m = in-queue (queueKind q) (stateIn z s) (t .before) (t .entry) (t .after) (seat-queue z s (t .seat)) in
       not-there (h .keeps) (omega (arith, h .sound .once k, m (λ y. bit (keyIs k y)), ap bit (eq-eqb k (t .entry .key) (sym (t .key)))))
 
   pub took-absent : Held z s → {r : Spot} → Looks z s k r → r ≡ Absent → Took z s s k false
@@ -111,7 +111,7 @@ module _ {z : Shape} {s : List ℕ} (k : ℕ) where
     pub not-resident : keyed k (stateIn z s) ≡ 0 → {q : QueueKind} {x : ℕ} → r ≡ Resident q x → Recorded z s s k Nothing
     not-resident nil {q} {x} w =
         let t = l .resident q x w in
-        let m = in-queue (kindOf q) (stateIn z s) (t .before) (t .entry) (t .after) (seat-queue z s (t .seat)) (λ y. bit (keyIs k y)) in
+        let m = in-queue (queueKind q) (stateIn z s) (t .before) (t .entry) (t .after) (seat-queue z s (t .seat)) (λ y. bit (keyIs k y)) in
         absurd (omega (arith, nil, m, ap bit (eq-eqb k (t .entry .key) (sym (t .key)))))
 
   module _ (h : Held z s) (lack : Lacks z s k) (some : 1 ≤ stateIn z s .limits .ghostLimit) {s₁ : List ℕ} {r : Given·} (g : Made z s s₁ r) where

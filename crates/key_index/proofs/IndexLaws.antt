@@ -8,7 +8,7 @@ use native.Mathlib.Omega.{arith}
 use native.Mathlib.Decide.{ℕ-discrete}
 use native.Mathlib.Nat.{mul-lt-mul-of-pos-right}
 use Rattle.key_index.specs.Links.{In, Links}
-use Rattle.key_index.specs.Index.{bucketOf, Clean, Chain, Index}
+use Rattle.key_index.specs.Index.{bucketOf, Clean, Bucketed, Index}
 use Rattle.key_index.proofs.LinksLaws.{in-more, in-less, same, stays}
 use Rattle.key_index.proofs.FewLaws.{links-distinct, distinct-out}
 
@@ -64,10 +64,10 @@ module _ (n buckets : ℕ) (key link head : ℕ → ℕ) (live : ℕ → Type 0)
         let w = c .whole in
         stays n link link′ (head b) (w .nodes) (w .end) (λ y i. pl .other y (not-x y (c .sound y i .0))) (w .links)
 
-    add-chain : (b : ℕ) → b < buckets → Chain n buckets key′ link′ head′ (λ y. (y ≡ x) ⊎ live y) b
+    add-chain : (b : ℕ) → b < buckets → Bucketed n buckets key′ link′ head′ (λ y. (y ≡ x) ⊎ live y) b
     add-chain b h = go (ix .chains b h) (ℕ-discrete b (bucketOf k buckets))
       where
-        go : Chain n buckets key link head live b → Dec (b ≡ bucketOf k buckets) → Chain n buckets key′ link′ head′ (λ y. (y ≡ x) ⊎ live y) b
+        go : Bucketed n buckets key link head live b → Dec (b ≡ bucketOf k buckets) → Bucketed n buckets key′ link′ head′ (λ y. (y ≡ x) ⊎ live y) b
         go c (yes e) =
             let w = c .clean .whole in
             let sound = c .clean .sound in
@@ -109,10 +109,10 @@ module _ (n buckets : ℕ) (key link head : ℕ → ℕ) (live : ℕ → Type 0)
       (was : Links n link (head b) (s ++ x ∷ t) e) (is : Links n link′ (head′ b) (s ++ t) e)
       (keep : (y : ℕ) → live y → bucketOf (key y) buckets ≢ b → link′ y ≡ link y) (heads : (a : ℕ) → a ≢ b → head′ a ≡ head a)
       (own : bucketOf (key x) buckets ≡ b) where
-    remove-chain : (a : ℕ) → a < buckets → Chain n buckets key link′ head′ (λ y. live y × (y ≢ x)) a
+    remove-chain : (a : ℕ) → a < buckets → Bucketed n buckets key link′ head′ (λ y. live y × (y ≢ x)) a
     remove-chain a h = go (ix .chains a h) (ℕ-discrete a b)
       where
-        go : Chain n buckets key link head live a → Dec (a ≡ b) → Chain n buckets key link′ head′ (λ y. live y × (y ≢ x)) a
+        go : Bucketed n buckets key link head live a → Dec (a ≡ b) → Bucketed n buckets key link′ head′ (λ y. live y × (y ≢ x)) a
         go c (yes q) =
             let w = c .clean .whole in
             let all : w .nodes ≡ s ++ x ∷ t = same n link (head b) (w .nodes) (s ++ x ∷ t) (w .end) e (w .out) out (rw q at (w .links)) was in

@@ -6,7 +6,7 @@ use mathlib.Core.Logic.{_⊎_, _≢_}
 use Prim.Native.Nat.{ℕ, _+_, _<_}
 use native.Mathlib.Omega.{arith}
 use lib.ListN.{length, getD, set}
-use Rattle.nodes.specs.Nodes.{Field, Key, Chain, Bucket, cols, over, with, Room, Wrote, Reads}
+use Rattle.nodes.specs.Nodes.{Field, Key, Chain, Bucket, cols, over, withColumn, Room, SetsField, GetsField}
 use Rattle.nodes.specs.declared.Shape.{Shape}
 use Rattle.nodes.proofs.NodesLaws.{length-cols}
 use Rattle.nodes.proofs.OverLaws.{over-with, with-same}
@@ -14,8 +14,8 @@ use Rattle.key_index.specs.declared.Found.{Found}
 use Rattle.key_index.specs.declared.Found.the-variants.{At}
 use Rattle.key_index.specs.Links.{Whole}
 use Rattle.key_index.specs.Index.{bucketOf}
-use Rattle.key_index.specs.Walks.{FirstIs, Goes, Cut}
-use Rattle.key_index.specs.Stored.{col, LiveIn, IndexOf, Indexes, Miss, IsFound, headOf, withFirst, Leaves}
+use Rattle.key_index.specs.Walks.{FirstIs, Goes, InFront}
+use Rattle.key_index.specs.Stored.{col, LiveIn, IndexOf, Indexes, Miss, IsFound, headOf, withFirst, Unchains}
 use Rattle.key_index.proofs.FewLaws.{depth, depth-falls}
 use Rattle.key_index.proofs.IndexLaws.{bucket-below, Put, added}
 use Rattle.key_index.proofs.FindLaws.{Seen, seen-found, seen-next, seen-whole, index-whole, index-at, index-nothing}
@@ -25,21 +25,21 @@ use Rattle.key_index.proofs.LiveLaws.{put-set}
 -- ---- the lookup's walk, which has come to the node h
 
 module _ (z : Shape) (s : List ℕ) {k h₀ h : ℕ} (w : Seen (z .room) (col (cols z s Key)) (col (cols z s Chain)) k h₀ h) (b : h < z .room) where
-  module _ {r : ℕ} (is : Reads z s Key h r) where
+  module _ {r : ℕ} (is : GetsField z s Key h r) where
     pub walk-found : r ≡ k → FirstIs (z .room) (col (cols z s Key)) (col (cols z s Chain)) k h₀ (At h)
     walk-found e = seen-found h w b (sym (is .value) ∙ e)
 
-    pub walk-next : (r ≡ k → ⊥) → {m : ℕ} → Reads z s Chain h m → Seen (z .room) (col (cols z s Key)) (col (cols z s Chain)) k h₀ m
+    pub walk-next : (r ≡ k → ⊥) → {m : ℕ} → GetsField z s Chain h m → Seen (z .room) (col (cols z s Key)) (col (cols z s Chain)) k h₀ m
     walk-next ne on = rw (on .value) (seen-next h w b (λ e. ne (is .value ∙ e)))
 
-  pub walk-less : Whole (z .room) (col (cols z s Chain)) h₀ → {m : ℕ} → Reads z s Chain h m
+  pub walk-less : Whole (z .room) (col (cols z s Chain)) h₀ → {m : ℕ} → GetsField z s Chain h m
       → depth (z .room) (col (cols z s Chain)) (z .room) m < depth (z .room) (col (cols z s Chain)) (z .room) h
   walk-less all on = rw (on .value) (depth-falls (z .room) (col (cols z s Chain)) h (seen-whole h w all) b)
 
 -- ---- the walk to the node in front of x, which has come to the node p
 
-module _ (z : Shape) (s : List ℕ) {h x p m : ℕ} (w : Way (z .room) (col (cols z s Chain)) h x p) (on : Reads z s Chain p m) where
-  pub way-found : m ≡ x → Cut (z .room) (col (cols z s Chain)) h x p
+module _ (z : Shape) (s : List ℕ) {h x p m : ℕ} (w : Way (z .room) (col (cols z s Chain)) h x p) (on : GetsField z s Chain p m) where
+  pub way-found : m ≡ x → InFront (z .room) (col (cols z s Chain)) h x p
   way-found e = way-cut p w (sym (on .value) ∙ e)
 
   pub way-on-to : (m ≡ x → ⊥) → Way (z .room) (col (cols z s Chain)) h x m
@@ -66,7 +66,7 @@ module _ (z : Shape) (s : List ℕ) (room : Room z s) (ixs : Indexes z (cols z s
 
   -- ---- find
 
-  module _ (k : ℕ) {b h : ℕ} (eb : b ≡ bucketOf k (z .buckets)) (eh : Reads z s Bucket b h) where
+  module _ (k : ℕ) {b h : ℕ} (eb : b ≡ bucketOf k (z .buckets)) (eh : GetsField z s Bucket b h) where
     there : h ≡ headOf z (cols z s) k
     there = eh .value ∙ ap (λ (y : ℕ). getD (cols z s Bucket) y 0) eb
 
@@ -81,28 +81,28 @@ module _ (z : Shape) (s : List ℕ) (room : Room z s) (ixs : Indexes z (cols z s
 
   -- ---- remove
 
-  module _ {x : ℕ} (lives : LiveIn z (cols z s) x) {k b h : ℕ} (ek : Reads z s Key x k) (eb : b ≡ bucketOf k (z .buckets)) (eh : Reads z s Bucket b h) where
+  module _ {x : ℕ} (lives : LiveIn z (cols z s) x) {k b h : ℕ} (ek : GetsField z s Key x k) (eb : b ≡ bucketOf k (z .buckets)) (eh : GetsField z s Bucket b h) where
     own : b ≡ bucketOf (getD (cols z s Key) x 0) (z .buckets)
     own = eb ∙ ap (λ (y : ℕ). bucketOf y (z .buckets)) (ek .value)
 
     pub leads : h ≢ x → Goes (z .room) (col (cols z s Chain)) h x
     leads ne = rw (eh .value) (goes ix some x lives b own (rw (eh .value) at ne))
 
-    module _ {next : ℕ} (en : Reads z s Chain x next) (t : List ℕ) where
-      pub leaves-first : h ≡ x → Wrote z s t Bucket b next → Leaves z (cols z s) (cols z t) x
-      leaves-first e w = record {
+    module _ {next : ℕ} (en : GetsField z s Chain x next) (t : List ℕ) where
+      pub unchains-first : h ≡ x → SetsField z s t Bucket b next → Unchains z (cols z s) (cols z t) x
+      unchains-first e w = record {
         chain = cols z s Chain;
         bucket = set (cols z s Bucket) b next;
         columns = rw (with-same (cols z s) Chain) (w .columns ∙ over-with (cols z s) Bucket b next);
         index = rw (en .value) (remove-first ix some x lives b own (put-head z s b (getD (cols z s Chain) x 0) (rw eb (bucket-below k (z .buckets) some))) (sym (eh .value) ∙ e));
       }
 
-      pub leaves-later : {p : ℕ} → h ≢ x → Cut (z .room) (col (cols z s Chain)) h x p → Wrote z s t Chain p next → Leaves z (cols z s) (cols z t) x
-      unfolding with
-      leaves-later {p} ne c w = record {
+      pub unchains-later : {p : ℕ} → h ≢ x → InFront (z .room) (col (cols z s Chain)) h x p → SetsField z s t Chain p next → Unchains z (cols z s) (cols z t) x
+      unfolding withColumn
+      unchains-later {p} ne c w = record {
         chain = set (cols z s Chain) p next;
         bucket = cols z s Bucket;
-        columns = w .columns ∙ over-with (cols z s) Chain p next ∙ sym (with-same (with (cols z s) Chain (set (cols z s Chain) p next)) Bucket);
+        columns = w .columns ∙ over-with (cols z s) Chain p next ∙ sym (with-same (withColumn (cols z s) Chain (set (cols z s Chain) p next)) Bucket);
         index = rw (en .value) (remove-later ix some x lives b own p (put-node z s Chain (length-cols z s Chain refl) p (getD (cols z s Chain) x 0) (c .below))
             (rw (eh .value) at ne) (rw (eh .value) at c));
       }

@@ -5,13 +5,13 @@ use mathlib.Core.List.{List}
 use Prim.Native.Nat.{ℕ, _<_}
 use native.Mathlib.Omega.{arith}
 use lib.ListN.{getD}
-use Rattle.nodes.specs.Nodes.{Field, Key, Chain, Queue, Bucket, Cols, cols, over, with, Room}
+use Rattle.nodes.specs.Nodes.{Field, Key, Chain, Queue, Bucket, Cols, cols, over, withColumn, Room}
 use Rattle.nodes.specs.declared.Shape.{Shape}
 use Rattle.nodes.proofs.NodesLaws.{length-cols}
 use Rattle.nodes.proofs.OverLaws.{Other, over-other}
 use Rattle.key_index.specs.declared.Found.{Found}
 use Rattle.key_index.specs.declared.Found.the-variants.{At, Nothing}
-use Rattle.key_index.specs.Stored.{LiveIn, Indexes, Hit, Miss, IsFound, withFirst, Joins, Leaves, Empties}
+use Rattle.key_index.specs.Stored.{LiveIn, Indexes, Hit, Miss, IsFound, withFirst, Joins, Unchains, Empties}
 use Rattle.key_index.proofs.LiveLaws.{born, moved, cleared}
 use Rattle.key_index.proofs.StoreLaws.{joined}
 
@@ -36,12 +36,12 @@ pub joins-keeps : {z : Shape} {c d : Cols} {x k : ℕ} → Joins z c d x k → (
 unfolding withFirst over
 joins-keeps j f key chain bucket = rw (j .columns, key, chain, bucket)
 
-pub leaves-keeps : {z : Shape} {c d : Cols} {x : ℕ} → Leaves z c d x → (f : Field) → Other Chain f → Other Bucket f → d f ≡ c f
-unfolding with
-leaves-keeps l f chain bucket = rw (l .columns, chain, bucket)
+pub unchains-keeps : {z : Shape} {c d : Cols} {x : ℕ} → Unchains z c d x → (f : Field) → Other Chain f → Other Bucket f → d f ≡ c f
+unfolding withColumn
+unchains-keeps l f chain bucket = rw (l .columns, chain, bucket)
 
 pub empties-keeps : {z : Shape} {c d : Cols} → Empties z c d → (f : Field) → Other Bucket f → d f ≡ c f
-unfolding with
+unfolding withColumn
 empties-keeps e f bucket = rw (e .columns, bucket)
 
 -- ---- fields that the index does not read
@@ -63,8 +63,8 @@ unfolding over
 index-moved {z} {c} {x} {v} lives some ix = record { index = moved (z .room) (c Queue) x v lives some (ix .index) }
 
 -- a live node goes out, and its tag becomes 0
-pub index-cleared : {z : Shape} {c d : Cols} {x : ℕ} → LiveIn z c x → Leaves z c d x → Indexes z (over d Queue x 0)
-unfolding over with
+pub index-cleared : {z : Shape} {c d : Cols} {x : ℕ} → LiveIn z c x → Unchains z c d x → Indexes z (over d Queue x 0)
+unfolding over withColumn
 index-cleared {z} {c} {d} {x} lives l = record { index = rw (l .columns) (cleared (c Queue) x lives (l .index)) }
 
 -- a node with the tag 0 comes in with a key that no live node has, and its tag becomes v

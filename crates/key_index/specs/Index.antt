@@ -14,11 +14,11 @@ pub record Clean (n buckets : ℕ) (key link head : ℕ → ℕ) (live : ℕ →
   pub sound : (y : ℕ) → In y (whole .nodes) → live y × (bucketOf (key y) buckets ≡ b)
 
 -- and it has every live node of that bucket
-pub record Chain (n buckets : ℕ) (key link head : ℕ → ℕ) (live : ℕ → Type 0) (b : ℕ) : Type 0 where
+pub record Bucketed (n buckets : ℕ) (key link head : ℕ → ℕ) (live : ℕ → Type 0) (b : ℕ) : Type 0 where
   pub clean : Clean n buckets key link head live b
   pub full : (y : ℕ) → live y → bucketOf (key y) buckets ≡ b → In y (clean .whole .nodes)
 
 -- n nodes are indexed by key: each bucket has its chain, and no two live nodes have one key
 pub record Index (n buckets : ℕ) (key link head : ℕ → ℕ) (live : ℕ → Type 0) : Type 0 where
-  pub chains : (b : ℕ) → b < buckets → Chain n buckets key link head live b
+  pub chains : (b : ℕ) → b < buckets → Bucketed n buckets key link head live b
   pub unique : (x y : ℕ) → live x → live y → key x ≡ key y → x ≡ y

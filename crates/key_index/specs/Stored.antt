@@ -5,7 +5,7 @@ use mathlib.Core.List.{List}
 use mathlib.Core.Logic.{_≢_}
 use Prim.Native.Nat.{ℕ, _<_}
 use lib.ListN.{getD, replicate}
-use Rattle.nodes.specs.Nodes.{Key, Chain, Queue, Bucket, Cols, over, with}
+use Rattle.nodes.specs.Nodes.{Key, Chain, Queue, Bucket, Cols, over, withColumn}
 use Rattle.nodes.specs.declared.Shape.{Shape}
 use Rattle.key_index.specs.declared.Found.{Found}
 use Rattle.key_index.specs.declared.Found.the-variants.{At, Nothing}
@@ -60,10 +60,10 @@ pub record Joins (z : Shape) (c d : Cols) (x k : ℕ) : Type 0 where
   pub columns : d ≡ withFirst z c x k
 
 -- the live node x has gone out: links and heads alone are changed, and they index the other live nodes
-pub record Leaves (z : Shape) (c d : Cols) (x : ℕ) : Type 0 where
+pub record Unchains (z : Shape) (c d : Cols) (x : ℕ) : Type 0 where
   pub chain : List ℕ
   pub bucket : List ℕ
-  pub columns : d ≡ with (with c Chain chain) Bucket bucket
+  pub columns : d ≡ withColumn (withColumn c Chain chain) Bucket bucket
   pub index : Index (z .room) (z .buckets) (col (c Key)) (col chain) (col bucket) (λ y. LiveIn z c y × (y ≢ x))
 
 -- what a link holds where the chain ends: above every node's number in every store
@@ -72,7 +72,7 @@ endMark = 65535
 
 -- every chain is empty: exactly the heads are written
 pub record Empties (z : Shape) (c d : Cols) : Type 0 where
-  pub columns : d ≡ with c Bucket (replicate (z .buckets) endMark)
+  pub columns : d ≡ withColumn c Bucket (replicate (z .buckets) endMark)
 
 -- the chain of the bucket b ends, and its nodes are live and of that bucket
 pub record ChainOk (z : Shape) (c : Cols) (b : ℕ) : Type 0 where

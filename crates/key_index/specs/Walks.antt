@@ -45,7 +45,7 @@ pub record Goes (n : ℕ) (link : ℕ → ℕ) (h x : ℕ) : Type 0 where
   pub has : In x (whole .nodes)
 
 -- p is the node in front of x in the chain that goes on from the node h
-pub record Cut (n : ℕ) (link : ℕ → ℕ) (h x p : ℕ) : Type 0 where
+pub record InFront (n : ℕ) (link : ℕ → ℕ) (h x p : ℕ) : Type 0 where
   pub front : List ℕ
   pub back : List ℕ
   pub end : ℕ

@@ -6,8 +6,8 @@ ghost use Rattle.cells.specs.Decides.{Decides, All};
 ghost use Rattle.nodes.specs.Nodes.{Field, cols, Room};
 ghost use Rattle.key_index.specs.Links.{Whole};
 ghost use Rattle.key_index.specs.Index.{bucketOf};
-ghost use Rattle.key_index.specs.Walks.{FirstIs, isAt, Goes, Cut};
-ghost use Rattle.key_index.specs.Stored.{col, LiveIn, Indexes, IsFound, Joins, Leaves, Empties, ChainOk, NodeOk};
+ghost use Rattle.key_index.specs.Walks.{FirstIs, isAt, Goes, InFront};
+ghost use Rattle.key_index.specs.Stored.{col, LiveIn, Indexes, IsFound, Joins, Unchains, Empties, ChainOk, NodeOk};
 use nodes::Shape;
 
 // What a link holds where a chain ends.
@@ -69,7 +69,7 @@ pub fn add(s: &mut [u8], z: Shape, x: usize, k: u64)
 // The node in front of `x` in the chain that goes on from the node `h`.
 fn in_front(s: &[u8], z: Shape, h: usize, x: usize) -> usize
     requires { ⌜ Room z (now s) × Goes (z .room) (col (cols z (now s) Field.Chain)) h x ⌝ }
-    ensures { λ r. ⌜ Cut (z .room) (col (cols z (now (s .entry)) Field.Chain)) h x r ⌝ }
+    ensures { λ r. ⌜ InFront (z .room) (col (cols z (now (s .entry)) Field.Chain)) h x r ⌝ }
 {
     let mut p = h;
     loop {
@@ -84,7 +84,7 @@ fn in_front(s: &[u8], z: Shape, h: usize, x: usize) -> usize
 // Takes the live node `x` out of the chain of its key. Its tag is left for the caller to write.
 pub fn remove(s: &mut [u8], z: Shape, x: usize)
     requires { ⌜ Room z (now s) × Indexes z (cols z (now s)) × LiveIn z (cols z (now s)) x ⌝ }
-    ensures { λ _. ⌜ Leaves z (cols z (now (s .entry))) (cols z (now (s .exit))) x ⌝ }
+    ensures { λ _. ⌜ Unchains z (cols z (now (s .entry))) (cols z (now (s .exit))) x ⌝ }
 {
     let k = nodes::key_of(s, z, x);
     let b = bucket_of_key(k, z.buckets);

@@ -8,21 +8,21 @@ use native.Mathlib.Omega.{arith}
 use borrow.Author.Count.{below-more}
 use lib.ListN.{length, set, length-set}
 use lib.Seq.{getD-set-same, getD-set-other}
-use Rattle.nodes.specs.Nodes.{Head, Next, Prev, Queue, Cols, cols, over, Room, Wrote}
+use Rattle.nodes.specs.Nodes.{Head, Next, Prev, Queue, Cols, cols, over, Room, SetsField}
 use Rattle.nodes.specs.declared.Shape.{Shape}
 use Rattle.nodes.proofs.NodesLaws.{length-cols, room-kept}
 use Rattle.lists.specs.Ring.{Every, Out, Ring}
 use Rattle.lists.specs.Pool.{Absent, upd}
-use Rattle.lists.specs.Lists.{many, Lists, inAll, Untouched, CanPush, Pushed}
-use Rattle.lists.specs.Fresh.{stack, allFree, Fresh, emptied, Emptied}
+use Rattle.lists.specs.Lists.{many, Lists, inAll, Untouched, CanAttach, Attached}
+use Rattle.lists.specs.Fresh.{stack, allFree, Fresh, emptied, EmptyList}
 use Rattle.lists.proofs.EveryLaws.{every-map, high}
 use Rattle.lists.proofs.RingLaws.{ring-nx, ring-pv}
 use Rattle.lists.proofs.ListsLaws.{four, lists-push, lists-ext, can-push}
-use Rattle.lists.proofs.FrameLaws.{same-all, same-then, pushed-same}
+use Rattle.lists.proofs.FrameLaws.{same-all, same-then, attached-same}
 
 -- ---- a list is emptied
 
-pub empty-done : {z : Shape} {s s₁ s₂ s₃ : List ℕ} {t : ℕ} → Wrote z s s₁ Next (z .room + t) (z .room + t) → Wrote z s₁ s₂ Prev (z .room + t) (z .room + t) → Wrote z s₂ s₃ Head (4 + t) 0 → Emptied z s s₃ t
+pub empty-done : {z : Shape} {s s₁ s₂ s₃ : List ℕ} {t : ℕ} → SetsField z s s₁ Next (z .room + t) (z .room + t) → SetsField z s₁ s₂ Prev (z .room + t) (z .room + t) → SetsField z s₂ s₃ Head (4 + t) 0 → EmptyList z s s₃ t
 unfolding emptied
 empty-done a b d = record { columns = d .columns ∙ rw (b .columns, a .columns) }
 
@@ -34,7 +34,7 @@ pub record Bare (z : Shape) (c : Cols) (i : ℕ) : Type 0 where
 module _ (z : Shape) (c : Cols) (t : ℕ) where
   emptied-same : t < 4 → Untouched c (emptied z c t)
   unfolding emptied over
-  emptied-same b = record { keys = refl; values = refl; chains = refl; marks = refl; buckets = refl; rest = refl; heads-below = λ i h. getD-set-other (c Head) (4 + t) i 0 0 (omega arith); heads-above = λ i h. getD-set-other (c Head) (4 + t) i 0 0 (omega arith) }
+  emptied-same b = record { keys = refl; values = refl; chains = refl; freqs = refl; buckets = refl; rest = refl; heads-below = λ i h. getD-set-other (c Head) (4 + t) i 0 0 (omega arith); heads-above = λ i h. getD-set-other (c Head) (4 + t) i 0 0 (omega arith) }
 
   emptied-own : z .room + t < length (c Next) → z .room + t < length (c Prev) → 4 + t < length (c Head) → Bare z (emptied z c t) t
   unfolding emptied over
@@ -52,18 +52,18 @@ module _ (z : Shape) (c : Cols) (t : ℕ) where
       record { ring = ring-pv (z .room) (set (c Next) h h) (c Prev) (z .room + i) [] r h h (omega arith, tt); count = getD-set-other (c Head) (4 + t) (4 + i) 0 0 (omega arith) ∙ b .count }
 
 -- the lists below t are empty
-pub record Emptying (z : Shape) (s₀ s : List ℕ) (t : ℕ) : Type 0 where
+pub record EmptyingLists (z : Shape) (s₀ s : List ℕ) (t : ℕ) : Type 0 where
   pub room : Room z s
   pub kept : length s ≡ length s₀
   pub bound : t ≤ 4
   pub bare : (i : ℕ) → i < t → Bare z (cols z s) i
   pub untouched : Untouched (cols z s₀) (cols z s)
 
-pub emptying-start : {z : Shape} {s : List ℕ} → Room z s → Emptying z s s 0
+pub emptying-start : {z : Shape} {s : List ℕ} → Room z s → EmptyingLists z s s 0
 emptying-start {z} {s} m = record { room = m; kept = refl; bound = omega arith; bare = λ i b. absurd (omega arith); untouched = same-all (cols z s) }
 
-module _ {z : Shape} {s₀ s : List ℕ} {t : ℕ} (e : Emptying z s₀ s t) where
-  pub emptying-next : {s₁ : List ℕ} → t < 4 → Emptied z s s₁ t → length s₁ ≡ length s → Emptying z s₀ s₁ (t + 1)
+module _ {z : Shape} {s₀ s : List ℕ} {t : ℕ} (e : EmptyingLists z s₀ s t) where
+  pub emptying-next : {s₁ : List ℕ} → t < 4 → EmptyList z s s₁ t → length s₁ ≡ length s → EmptyingLists z s₀ s₁ (t + 1)
   emptying-next {s₁} b d l =
       record {
         room = room-kept (e .room) l;
@@ -117,16 +117,16 @@ pub freeing-start : {z : Shape} {s : List ℕ} → Room z s → Lists z (cols z 
 freeing-start {z} {s} m l = record { room = m; kept = refl; bound = omega arith; fresh = record { lists = l; untouched = same-all (cols z s) } }
 
 module _ {z : Shape} {s₀ s : List ℕ} {x : ℕ} (e : Freeing z s₀ s x) where
-  pub freeing-push : x < z .room → CanPush z s 0 x
+  pub freeing-push : x < z .room → CanAttach z s 0 x
   freeing-push b = can-push (e .fresh .lists) (omega arith) (free-out x) b
 
-  pub freeing-next : {s₁ : List ℕ} → x < z .room → Pushed z s s₁ 0 x → length s₁ ≡ length s → Freeing z s₀ s₁ (x + 1)
+  pub freeing-next : {s₁ : List ℕ} → x < z .room → Attached z s s₁ 0 x → length s₁ ≡ length s → Freeing z s₀ s₁ (x + 1)
   freeing-next b p l =
       record {
         room = room-kept (e .room) l;
         kept = l ∙ e .kept;
         bound = omega arith;
-        fresh = record { lists = rw (p .columns) (lists-ext (lists-push (e .fresh .lists) (free-out x) b (omega arith)) (free-next x)); untouched = same-then (e .fresh .untouched) (rw (p .columns) (pushed-same (cols z s) (omega arith) x z)) };
+        fresh = record { lists = rw (p .columns) (lists-ext (lists-push (e .fresh .lists) (free-out x) b (omega arith)) (free-next x)); untouched = same-then (e .fresh .untouched) (rw (p .columns) (attached-same (cols z s) (omega arith) x z)) };
       }
 
   pub freeing-end : z .room ≤ x → Fresh z s₀ s (z .room)

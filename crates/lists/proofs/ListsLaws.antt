@@ -7,11 +7,11 @@ use Prim.Native.Nat.{ℕ, zero, suc, _+_, _-_, _≤_, _<_}
 use native.Mathlib.Omega.{arith}
 use lib.ListN.{length, getD, set, length-set, length-append}
 use lib.Seq.{getD-set-same, getD-set-other}
-use Rattle.nodes.specs.Nodes.{Head, Next, Prev, Queue, Cols, cols, over, Reads}
+use Rattle.nodes.specs.Nodes.{Head, Next, Prev, Queue, Cols, cols, over, GetsField}
 use Rattle.nodes.specs.declared.Shape.{Shape}
 use Rattle.lists.specs.Ring.{Out, Among, First, Last, Ring, Tagged}
 use Rattle.lists.specs.Pool.{Absent, upd, view}
-use Rattle.lists.specs.Lists.{many, Lists, inAll, unlink, link, taken, pushed, CanTake, Taken, CanPush, Pushed}
+use Rattle.lists.specs.Lists.{many, Lists, inAll, unlink, link, detached, attached, CanDetach, Detached, CanAttach, Attached}
 use Rattle.lists.proofs.RingLaws.{attachNx, attachPv, detachNx, detachPv, Member, first-back, ring-first, ring-last, ring-empty, ring-alone}
 use Rattle.lists.proofs.PoolLaws.{upd-all, pool-member, pool-tag, pool-elsewhere, pool-taken, pool-gone, pool-pushed, pool-view, cat, pool-few, pool-full, ring-short, ring-shorter}
 
@@ -52,8 +52,8 @@ module _ {z : Shape} {c : Cols} {f : ℕ → List ℕ} (r : Lists z c f) where
     lists-some : many c t ≡ suc (length (a ++ b))
     lists-some = r .counts t tK ∙ ap length e ∙ omega (arith, length-append a (x ∷ b), length-append a b)
 
-    pub lists-take : Lists z (taken c t x) (upd f t (a ++ b))
-    unfolding taken unlink over detachNx detachPv
+    pub lists-take : Lists z (detached c t x) (upd f t (a ++ b))
+    unfolding detached unlink over detachNx detachPv
     lists-take =
         record {
           pool = pool-taken (z .room) 4 (c Next) (c Prev) (c Queue) f (r .pool) t tK a x b e;
@@ -67,8 +67,8 @@ module _ {z : Shape} {c : Cols} {f : ℕ → List ℕ} (r : Lists z c f) where
 
   -- ---- push
 
-  pub lists-push : {x : ℕ} → Absent 4 f x → x < z .room → {t : ℕ} → t < 4 → Lists z (pushed z c t x) (upd f t (x ∷ f t))
-  unfolding pushed link over attachNx attachPv
+  pub lists-push : {x : ℕ} → Absent 4 f x → x < z .room → {t : ℕ} → t < 4 → Lists z (attached z c t x) (upd f t (x ∷ f t))
+  unfolding attached link over attachNx attachPv
   lists-push {x} o xN {t} tK =
       record {
         pool = pool-pushed (z .room) 4 (c Next) (c Prev) (c Queue) f (r .pool) x o xN t tK;
@@ -158,44 +158,44 @@ module _ {z : Shape} {c : Cols} {f : ℕ → List ℕ} (r : Lists z c f) where
 -- ---- take and push may be called
 
 module _ {z : Shape} {s : List ℕ} {f : ℕ → List ℕ} (r : Lists z (cols z s) f) {t : ℕ} (tK : t < 4) where
-  pub can-take : {x : ℕ} → Among x (f t) → CanTake z s t x
+  pub can-take : {x : ℕ} → Among x (f t) → CanDetach z s t x
   can-take {x} p =
       let m : Member (z .room) (cols z s Next) (cols z s Prev) (z .room + t) (p .front) x (p .back) = lists-member r tK (p .front) x (p .back) (p .is) in
       let n : many (cols z s) t ≡ suc (length (p .front ++ p .back)) = lists-some r tK (p .front) x (p .back) (p .is) in
       record { list = tK; node = m .node; next-in = omega arith; prev-in = omega arith; some = omega arith }
 
-  pub can-push : {x : ℕ} → Absent 4 f x → x < z .room → CanPush z s t x
+  pub can-push : {x : ℕ} → Absent 4 f x → x < z .room → CanAttach z s t x
   can-push {x} o b =
       let k : (getD (cols z s Prev) (getD (cols z s Next) (z .room + t) 0) 0 ≡ z .room + t) × (getD (cols z s Next) (z .room + t) 0 ≤ z .room + t) = first-back (z .room) (cols z s Next) (cols z s Prev) (z .room + t) (f t) (lists-ring r tK) in
       record { list = tK; node = b; next-in = omega arith; space = omega (arith, r .counts t tK, ring-shorter (z .room) (cols z s Next) (cols z s Prev) (z .room + t) (f t) (lists-ring r tK) x b (o t tK)) }
 
   -- what was read of a list is its length and its ends
-  module _ {n : ℕ} (a : Reads z s Head (4 + t) n) where
+  module _ {n : ℕ} (a : GetsField z s Head (4 + t) n) where
     pub read-length : n ≡ length (f t)
     read-length = a .value ∙ r .counts t tK
 
     pub read-empty : n ≡ 0 → f t ≡ []
     read-empty e = lists-empty r tK (sym (a .value) ∙ e)
 
-    pub read-tail : {x : ℕ} → 1 ≤ n → Reads z s Prev (z .room + t) x → Last x (f t)
+    pub read-tail : {x : ℕ} → 1 ≤ n → GetsField z s Prev (z .room + t) x → Last x (f t)
     read-tail h p = rw (p .value) (lists-tail r tK (omega (arith, a .value)))
 
-    pub read-head : {x : ℕ} → 1 ≤ n → Reads z s Next (z .room + t) x → First x (f t)
+    pub read-head : {x : ℕ} → 1 ≤ n → GetsField z s Next (z .room + t) x → First x (f t)
     read-head h p = rw (p .value) (lists-head r tK (omega (arith, a .value)))
 
   -- take and push, of stores
-  pub lists-took : {s′ : List ℕ} {x : ℕ} → Taken z s s′ t x → (a b : List ℕ) → f t ≡ a ++ x ∷ b → Lists z (cols z s′) (upd f t (a ++ b))
+  pub lists-took : {s′ : List ℕ} {x : ℕ} → Detached z s s′ t x → (a b : List ℕ) → f t ≡ a ++ x ∷ b → Lists z (cols z s′) (upd f t (a ++ b))
   lists-took {s′} {x} w a b e = rw (w .columns) (lists-take r tK a x b e)
 
   -- an end is taken
-  module _ {s′ : List ℕ} {x : ℕ} (w : Taken z s s′ t x) where
+  module _ {s′ : List ℕ} {x : ℕ} (w : Detached z s s′ t x) where
     pub took-last : (p : Last x (f t)) → Lists z (cols z s′) (upd f t (p .front))
     took-last p = rw (append-nil (p .front)) at (lists-took w (p .front) [] (p .is))
 
     pub took-first : (p : First x (f t)) → Lists z (cols z s′) (upd f t (p .back))
     took-first p = lists-took w [] (p .back) (p .is)
 
-  pub lists-pushed : {s′ : List ℕ} {x : ℕ} → Pushed z s s′ t x → Absent 4 f x → x < z .room → Lists z (cols z s′) (upd f t (x ∷ f t))
+  pub lists-pushed : {s′ : List ℕ} {x : ℕ} → Attached z s s′ t x → Absent 4 f x → x < z .room → Lists z (cols z s′) (upd f t (x ∷ f t))
   lists-pushed w o b = rw (w .columns) (lists-push r o b tK)
 
 -- the ends are members

@@ -9,7 +9,7 @@ use native.Mathlib.Decide.{ℕ-discrete}
 use borrow.Author.Tests.{eq-eqb, ne-eqb}
 use lib.ListN.{length, getD, set, length-set}
 use lib.Seq.{getD-set-same}
-use Rattle.lists.specs.Ring.{Every, Out, Among, Seg, Ring, Tagged, walk}
+use Rattle.lists.specs.Ring.{Every, Out, Among, Seg, Ring, Tagged, trail}
 use Rattle.lists.specs.Pool.{Pool, Absent, upd, view}
 use Rattle.lists.proofs.EveryLaws.{every-map, every-append, every-less, every-at, among-or-out, high, tag-out, tag-frame}
 use Rattle.lists.proofs.SegLaws.{no-return}
@@ -99,7 +99,7 @@ module _ (N : ℕ) (nx pv : List ℕ) (s : ℕ) (l : List ℕ) (r : Ring N nx pv
   ring-shorter x b o = omega (arith, short N (x ∷ l) (o, ring-nodup) (b, r .nodes))
 
   -- so a walk of N steps is enough to read the ring
-  pub ring-read : walk nx s N s ≡ l
+  pub ring-read : trail nx s N s ≡ l
   ring-read = ring-walk N nx pv s l N r ring-short
 
 pub ring-view : (N : ℕ) (nx pv : List ℕ) (t : ℕ) (l : List ℕ) → Ring N nx pv (N + t) l → view N nx t ≡ l

@@ -7,7 +7,7 @@ use Prim.Native.Nat.{ℕ, _≤_, _<_}
 use native.Mathlib.Omega.{arith}
 use native.Mathlib.Nat.{le-refl}
 use lib.ListN.{length, getD, set, length-set}
-use Rattle.lists.specs.Ring.{Every, Out, First, Last, Seg, Ring, walk}
+use Rattle.lists.specs.Ring.{Every, Out, First, Last, Seg, Ring, trail}
 use Rattle.lists.proofs.EveryLaws.{every-map, every-left, every-right, every-less, every-at, high}
 use Rattle.lists.proofs.SegLaws.{seg-nx, seg-pv, out-nx, out-pv, seg-split, seg-unique, seg-once, keep, seg-detach, seg-attach, back, forth, seg-last, seg-walk}
 
@@ -133,7 +133,7 @@ module _ (N : ℕ) (nx pv : List ℕ) (s : ℕ) (a : List ℕ) (x : ℕ) (b : Li
       }
 
 module _ (N : ℕ) (nx pv : List ℕ) (s : ℕ) where
-  pub ring-walk : (l : List ℕ) (k : ℕ) → Ring N nx pv s l → length l ≤ k → walk nx s k s ≡ l
+  pub ring-walk : (l : List ℕ) (k : ℕ) → Ring N nx pv s l → length l ≤ k → trail nx s k s ≡ l
   ring-walk l k r le = seg-walk nx pv s l s k (r .seg) (ring-out N nx pv s l r) le
 
   -- the sentinel's previous is the last node, and the sentinel itself where there is none

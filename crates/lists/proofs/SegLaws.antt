@@ -9,7 +9,7 @@ use native.Mathlib.Nat.{le-refl}
 use borrow.Author.Tests.{eq-eqb, ne-eqb}
 use lib.ListN.{length, getD, set, length-set}
 use lib.Seq.{getD-set-same, getD-set-other}
-use Rattle.lists.specs.Ring.{Every, Out, Last, Link, Seg, walk}
+use Rattle.lists.specs.Ring.{Every, Out, Last, Link, Seg, trail}
 use Rattle.lists.proofs.EveryLaws.{every-right}
 
 module _ (nx pv : List ℕ) where
@@ -121,8 +121,8 @@ module _ (nx pv : List ℕ) where
   seg-last u w [] v h = record { front = []; is = rw (h .1 .1) }
   seg-last u w (y ∷ l) v h = let t : Last (getD pv v 0) (y ∷ l) = seg-last w y l v (h .1) in record { front = w ∷ t .front; is = ap (λ (k : List ℕ). w ∷ k) (t .is) }
 
-  pub seg-walk : (u : ℕ) (l : List ℕ) (v k : ℕ) → Seg nx pv u l v → Out v l → length l ≤ k → walk nx v k u ≡ l
-  unfolding walk
+  pub seg-walk : (u : ℕ) (l : List ℕ) (v k : ℕ) → Seg nx pv u l v → Out v l → length l ≤ k → trail nx v k u ≡ l
+  unfolding trail
   seg-walk u [] v zero h o le = refl
   seg-walk u [] v (suc k) h o le = rw (eq-eqb (getD nx u 0) v (h .0))
   seg-walk u (x ∷ l) v zero h o le = absurd (omega arith)

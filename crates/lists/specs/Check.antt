@@ -22,7 +22,7 @@ pub record Counted (z : Shape) (s : List ℕ) : Type 0 where
   pub sum : many (cols z s) 0 + many (cols z s) 1 + many (cols z s) 2 + many (cols z s) 3 ≡ z .room
 
 -- y is a node of list t, with u in front of it
-pub record Step (z : Shape) (s : List ℕ) (t u y : ℕ) : Type 0 where
+pub record StepOk (z : Shape) (s : List ℕ) (t u y : ℕ) : Type 0 where
   pub node : y < z .room
   pub back : getD (cols z s Prev) y 0 ≡ u
   pub tag : getD (cols z s Queue) y 0 ≡ t
@@ -41,5 +41,5 @@ pub record Leads (z : Shape) (s : List ℕ) (t k u : ℕ) : Type 0 where
   pub count : length list ≡ k
 
 -- list t leads from its sentinel back to it, over as many nodes as the header says
-pub record Chained (z : Shape) (s : List ℕ) (t : ℕ) : Type 0 where
+pub record ListOk (z : Shape) (s : List ℕ) (t : ℕ) : Type 0 where
   pub leads : Leads z s t (many (cols z s) t) (z .room + t)

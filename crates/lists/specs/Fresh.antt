@@ -27,5 +27,5 @@ unfoldable pub emptied : Shape → Cols → ℕ → Cols
 emptied z c t = over (over (over c Next (z .room + t) (z .room + t)) Prev (z .room + t) (z .room + t)) Head (4 + t) 0
 
 -- the store s′ is s with list t emptied
-pub record Emptied (z : Shape) (s s′ : List ℕ) (t : ℕ) : Type 0 where
+pub record EmptyList (z : Shape) (s s′ : List ℕ) (t : ℕ) : Type 0 where
   pub columns : cols z s′ ≡ emptied z (cols z s) t

@@ -4,7 +4,7 @@ use mathlib.Core.Path.{_≡_}
 use mathlib.Core.List.{List}
 use Prim.Native.Nat.{ℕ, _+_, _-_, _≤_, _<_}
 use lib.ListN.{length, getD}
-use Rattle.nodes.specs.Nodes.{Head, Key, Value, Next, Prev, Chain, Queue, Mark, Bucket, Rest, Cols, cols, over}
+use Rattle.nodes.specs.Nodes.{Head, Key, Value, Next, Prev, Chain, Queue, Freq, Bucket, Rest, Cols, cols, over}
 use Rattle.nodes.specs.declared.Shape.{Shape}
 use Rattle.lists.specs.Pool.{Pool}
 
@@ -27,7 +27,7 @@ pub record Untouched (c d : Cols) : Type 0 where
   pub keys : d Key ≡ c Key
   pub values : d Value ≡ c Value
   pub chains : d Chain ≡ c Chain
-  pub marks : d Mark ≡ c Mark
+  pub freqs : d Freq ≡ c Freq
   pub buckets : d Bucket ≡ c Bucket
   pub rest : d Rest ≡ c Rest
   pub heads-below : (i : ℕ) → i < 4 → getD (d Head) i 0 ≡ getD (c Head) i 0
@@ -44,12 +44,12 @@ unfoldable pub link : Cols → ℕ → ℕ → Cols
 link c h x = over (over (over (over c Next x (getD (c Next) h 0)) Next h x) Prev x h) Prev (getD (c Next) h 0) x
 
 -- node x out of list t
-unfoldable pub taken : Cols → ℕ → ℕ → Cols
-taken c t x = over (unlink c x) Head (4 + t) (many c t - 1)
+unfoldable pub detached : Cols → ℕ → ℕ → Cols
+detached c t x = over (unlink c x) Head (4 + t) (many c t - 1)
 
 -- node x, which is in no list, at the head of list t
-unfoldable pub pushed : Shape → Cols → ℕ → ℕ → Cols
-pushed z c t x = over (link (over c Queue x t) (z .room + t) x) Head (4 + t) (many c t + 1)
+unfoldable pub attached : Shape → Cols → ℕ → ℕ → Cols
+attached z c t x = over (link (over c Queue x t) (z .room + t) x) Head (4 + t) (many c t + 1)
 
 -- ---- contracts: what a function asks, so that it stays within the columns, and the columns that it leaves
 
@@ -74,7 +74,7 @@ pub record Linked (z : Shape) (s s′ : List ℕ) (h x : ℕ) : Type 0 where
   pub columns : cols z s′ ≡ link (cols z s) h x
 
 -- x and its neighbours are in reach, and list t has a node to lose
-pub record CanTake (z : Shape) (s : List ℕ) (t x : ℕ) : Type 0 where
+pub record CanDetach (z : Shape) (s : List ℕ) (t x : ℕ) : Type 0 where
   pub list : t < 4
   pub node : x < z .room
   pub next-in : getD (cols z s Next) x 0 < z .room + 4
@@ -82,16 +82,16 @@ pub record CanTake (z : Shape) (s : List ℕ) (t x : ℕ) : Type 0 where
   pub some : 1 ≤ many (cols z s) t
 
 -- the store s′ is s with x out of list t
-pub record Taken (z : Shape) (s s′ : List ℕ) (t x : ℕ) : Type 0 where
-  pub columns : cols z s′ ≡ taken (cols z s) t x
+pub record Detached (z : Shape) (s s′ : List ℕ) (t x : ℕ) : Type 0 where
+  pub columns : cols z s′ ≡ detached (cols z s) t x
 
 -- x and the head of list t are in reach, and the list is not as long as it can be
-pub record CanPush (z : Shape) (s : List ℕ) (t x : ℕ) : Type 0 where
+pub record CanAttach (z : Shape) (s : List ℕ) (t x : ℕ) : Type 0 where
   pub list : t < 4
   pub node : x < z .room
   pub next-in : getD (cols z s Next) (z .room + t) 0 < z .room + 4
   pub space : many (cols z s) t < z .room
 
 -- the store s′ is s with x at the head of list t
-pub record Pushed (z : Shape) (s s′ : List ℕ) (t x : ℕ) : Type 0 where
-  pub columns : cols z s′ ≡ pushed z (cols z s) t x
+pub record Attached (z : Shape) (s s′ : List ℕ) (t x : ℕ) : Type 0 where
+  pub columns : cols z s′ ≡ attached z (cols z s) t x

@@ -5,7 +5,7 @@ use Prim.Native.Nat.{ℕ, _+_, _≤_, _<_}
 use lib.Dec.{eqb}
 use lib.ListN.{length}
 use Rattle.cells.specs.Columns.{pick}
-use Rattle.lists.specs.Ring.{Ring, Tagged, Out, walk}
+use Rattle.lists.specs.Ring.{Ring, Tagged, Out, trail}
 
 -- f with l in place of its list i
 abbrev pub upd : (ℕ → List ℕ) → ℕ → List ℕ → ℕ → List ℕ
@@ -23,4 +23,4 @@ Absent K f x = (t : ℕ) → t < K → Out x (f t)
 
 -- ring t, read off the column next
 unfoldable pub view : ℕ → List ℕ → ℕ → List ℕ
-view N nx t = walk nx (N + t) N (N + t)
+view N nx t = trail nx (N + t) N (N + t)

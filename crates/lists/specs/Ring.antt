@@ -55,6 +55,6 @@ abbrev pub Tagged : List ℕ → ℕ → List ℕ → Type 0
 Tagged q t l = Every (λ y. getD q y 0 ≡ t) l
 
 -- the nodes on the way along nx from u to s, at most k of them
-unfoldable pub walk : List ℕ → ℕ → ℕ → ℕ → List ℕ
-walk nx s zero u = []
-walk nx s (suc k) u = pick (eqb (getD nx u 0) s) [] (getD nx u 0 ∷ walk nx s k (getD nx u 0))
+unfoldable pub trail : List ℕ → ℕ → ℕ → ℕ → List ℕ
+trail nx s zero u = []
+trail nx s (suc k) u = pick (eqb (getD nx u 0) s) [] (getD nx u 0 ∷ trail nx s k (getD nx u 0))

@@ -4,10 +4,10 @@
 // Queue is its list's number, and the header keeps the lists' lengths.
 ghost use Prim.Native.Nat.{_+_, _<_};
 ghost use Rattle.cells.specs.Decides.{Decides, All};
-ghost use Rattle.nodes.specs.Nodes.{Field, cols, Room, Reads};
-ghost use Rattle.lists.specs.Check.{Listed, Counted, Step, Home, Chained};
-ghost use Rattle.lists.specs.Fresh.{allFree, Fresh, Emptied};
-ghost use Rattle.lists.specs.Lists.{Lists, CanUnlink, Unlinked, CanLink, Linked, CanTake, Taken, CanPush, Pushed};
+ghost use Rattle.nodes.specs.Nodes.{Field, cols, Room, GetsField};
+ghost use Rattle.lists.specs.Check.{Listed, Counted, StepOk, Home, ListOk};
+ghost use Rattle.lists.specs.Fresh.{allFree, Fresh, EmptyList};
+ghost use Rattle.lists.specs.Lists.{Lists, CanUnlink, Unlinked, CanLink, Linked, CanDetach, Detached, CanAttach, Attached};
 use nodes::Shape;
 
 // The numbers of the lists.
@@ -25,7 +25,7 @@ const LENGTHS: usize = 4;
 // How many nodes list t has.
 pub fn length_of(s: &[u8], z: Shape, t: usize) -> u64
     requires { ⌜ Room z (now s) × (t < 4) ⌝ }
-    ensures { λ r. ⌜ Reads z (now (s .entry)) Field.Head (4 + t) r ⌝ }
+    ensures { λ r. ⌜ GetsField z (now (s .entry)) Field.Head (4 + t) r ⌝ }
 {
     nodes::head_of(s, z, LENGTHS + t)
 }
@@ -33,7 +33,7 @@ pub fn length_of(s: &[u8], z: Shape, t: usize) -> u64
 // The newest node of list t, and the list's sentinel where there is none.
 pub fn head_node_of(s: &[u8], z: Shape, t: usize) -> usize
     requires { ⌜ Room z (now s) × (t < 4) ⌝ }
-    ensures { λ r. ⌜ Reads z (now (s .entry)) Field.Next (z .room + t) r ⌝ }
+    ensures { λ r. ⌜ GetsField z (now (s .entry)) Field.Next (z .room + t) r ⌝ }
 {
     nodes::next_of(s, z, z.room + t)
 }
@@ -41,7 +41,7 @@ pub fn head_node_of(s: &[u8], z: Shape, t: usize) -> usize
 // The oldest node of list t, and the list's sentinel where there is none.
 pub fn tail_of(s: &[u8], z: Shape, t: usize) -> usize
     requires { ⌜ Room z (now s) × (t < 4) ⌝ }
-    ensures { λ r. ⌜ Reads z (now (s .entry)) Field.Prev (z .room + t) r ⌝ }
+    ensures { λ r. ⌜ GetsField z (now (s .entry)) Field.Prev (z .room + t) r ⌝ }
 {
     nodes::prev_of(s, z, z.room + t)
 }
@@ -72,10 +72,10 @@ fn link(s: &mut [u8], z: Shape, h: usize, x: usize)
 }
 
 // Detach: takes node x out of list t, wherever it stands there.
-pub fn take(s: &mut [u8], z: Shape, t: usize, x: usize)
+pub fn detach(s: &mut [u8], z: Shape, t: usize, x: usize)
     requires { ⌜ Room z (now s) ⌝ }
-    requires { ⌜ CanTake z (now s) t x ⌝ }
-    ensures { λ _. ⌜ Taken z (now (s .entry)) (now (s .exit)) t x ⌝ }
+    requires { ⌜ CanDetach z (now s) t x ⌝ }
+    ensures { λ _. ⌜ Detached z (now (s .entry)) (now (s .exit)) t x ⌝ }
 {
     let n = length_of(s, z, t);
     unlink(s, z, x);
@@ -83,10 +83,10 @@ pub fn take(s: &mut [u8], z: Shape, t: usize, x: usize)
 }
 
 // Attach: puts node x, which is in no list, at the head of list t.
-pub fn push(s: &mut [u8], z: Shape, t: usize, x: usize)
+pub fn attach(s: &mut [u8], z: Shape, t: usize, x: usize)
     requires { ⌜ Room z (now s) ⌝ }
-    requires { ⌜ CanPush z (now s) t x ⌝ }
-    ensures { λ _. ⌜ Pushed z (now (s .entry)) (now (s .exit)) t x ⌝ }
+    requires { ⌜ CanAttach z (now s) t x ⌝ }
+    ensures { λ _. ⌜ Attached z (now (s .entry)) (now (s .exit)) t x ⌝ }
 {
     let n = length_of(s, z, t);
     nodes::set_queue(s, z, x, t);
@@ -117,9 +117,9 @@ fn counted(s: &[u8], z: Shape) -> bool
 }
 
 // Whether y, to which node u leads, is a node of list t that leads back.
-fn steps(s: &[u8], z: Shape, t: usize, u: usize, y: usize) -> bool
+fn step_ok(s: &[u8], z: Shape, t: usize, u: usize, y: usize) -> bool
     requires { ⌜ Room z (now s) ⌝ }
-    ensures { λ r. ⌜ Decides (Step z (now (s .entry)) t u y) r ⌝ }
+    ensures { λ r. ⌜ Decides (StepOk z (now (s .entry)) t u y) r ⌝ }
 {
     if z.room <= y {
         return false;
@@ -144,15 +144,15 @@ fn comes_home(s: &[u8], z: Shape, t: usize, u: usize) -> bool
 
 // Whether list t leads back to its sentinel over as many nodes as the header says. No link is trusted:
 // the walk goes on only over nodes, and takes as many steps as the header says.
-fn chained(s: &[u8], z: Shape, t: usize) -> bool
+fn list_ok(s: &[u8], z: Shape, t: usize) -> bool
     requires { ⌜ Room z (now s) × (t < 4) ⌝ }
-    ensures { λ r. ⌜ Decides (Chained z (now (s .entry)) t) r ⌝ }
+    ensures { λ r. ⌜ Decides (ListOk z (now (s .entry)) t) r ⌝ }
 {
     let mut left = length_of(s, z, t);
     let mut u = z.room + t;
     while 0 < left {
         let y = nodes::next_of(s, z, u);
-        if !steps(s, z, t, u, y) {
+        if !step_ok(s, z, t, u, y) {
             return false;
         }
         u = y;
@@ -162,13 +162,13 @@ fn chained(s: &[u8], z: Shape, t: usize) -> bool
 }
 
 // Whether all four lists do.
-fn all_chained(s: &[u8], z: Shape) -> bool
+fn lists_ok(s: &[u8], z: Shape) -> bool
     requires { ⌜ Room z (now s) ⌝ }
-    ensures { λ r. ⌜ Decides (All (Chained z (now (s .entry))) 4) r ⌝ }
+    ensures { λ r. ⌜ Decides (All (ListOk z (now (s .entry))) 4) r ⌝ }
 {
     let mut t = 0;
     while t < 4 {
-        if !chained(s, z, t) {
+        if !list_ok(s, z, t) {
             return false;
         }
         t += 1;
@@ -185,13 +185,13 @@ pub fn check_lists(s: &[u8], z: Shape) -> bool
     if !counted(s, z) {
         return false;
     }
-    all_chained(s, z)
+    lists_ok(s, z)
 }
 
 // Makes list t empty, whatever the bytes were: its sentinel is its own neighbour.
 fn empty(s: &mut [u8], z: Shape, t: usize)
     requires { ⌜ Room z (now s) × (t < 4) ⌝ }
-    ensures { λ _. ⌜ Emptied z (now (s .entry)) (now (s .exit)) t ⌝ }
+    ensures { λ _. ⌜ EmptyList z (now (s .entry)) (now (s .exit)) t ⌝ }
 {
     let sent = z.room + t;
     nodes::set_next(s, z, sent, sent);
@@ -219,7 +219,7 @@ fn free_all(s: &mut [u8], z: Shape)
 {
     let mut x = 0;
     while x < z.room {
-        push(s, z, FREE, x);
+        attach(s, z, FREE, x);
         x += 1;
     }
 }

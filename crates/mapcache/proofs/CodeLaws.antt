@@ -17,7 +17,7 @@ use Rattle.s3_fifo.specs.declared.Creation.{Creation}
 use Rattle.s3_fifo.specs.declared.Creation.the-variants.{Refused}
 use Rattle.s3_fifo.specs.declared.Ran.{Ran}
 use Rattle.s3_fifo.specs.declared.Ran.the-variants.{Done}
-use Rattle.s3_fifo.specs.Calls.{Said, gave, turned, createdSays, ranSays, Leaves, Called}
+use Rattle.s3_fifo.specs.Calls.{Said, gave, turned, createdSays, ranSays, Follows, Called}
 use Rattle.mapcache.specs.Codes.{codeOf, FitsIn, Fits}
 
 zero-minus : (n : ℕ) → n < 2 ^ 63 → toZ w64 0 -ℤ toZ w64 n ≡ negℤ (pos n)
@@ -34,13 +34,13 @@ pub minus-is : (n : ℕ) → n < 2 ^ 63 → toZ w64 (ofZ w64 (toZ w64 0 -ℤ toZ
 minus-is n h = toZ-ofZ (minus-fits n h) ∙ zero-minus n h
 
 -- the reply bytes stand in the reply buffer
-leaves-fit : (v : Verdict) (a : Said) (s s′ p p′ : List ℕ) → Leaves v a s s′ p p′ → length p′ < 2 ^ 63 → FitsIn a
-leaves-fit (refused n d) a s s′ p p′ l h = subst FitsIn (sym (l .0)) tt
-leaves-fit (done σ bs) a s s′ p p′ l h =
+follows-fit : (v : Verdict) (a : Said) (s s′ p p′ : List ℕ) → Follows v a s s′ p p′ → length p′ < 2 ^ 63 → FitsIn a
+follows-fit (refused n d) a s s′ p p′ l h = subst FitsIn (sym (l .0)) tt
+follows-fit (done σ bs) a s s′ p p′ l h =
     let long = ap length (l .2) ∙ length-append bs (drop (length bs) p) in subst FitsIn (sym (l .0)) (omega arith)
 
 pub called-fits : {s q p s′ p′ : List ℕ} {r : Ran} → Called s q p r s′ p′ → length p′ < 2 ^ 63 → Fits r
-called-fits {s} {q} {p} {s′} {p′} {r} c h = leaves-fit (call (c .store) q (length p)) (ranSays r) s s′ p p′ (c .leaves) h
+called-fits {s} {q} {p} {s′} {p′} {r} c h = follows-fit (call (c .store) q (length p)) (ranSays r) s s′ p p′ (c .leaves) h
 
 pub done-fits : {r : Ran} {n : ℕ} → r ≡ Done n → Fits r → SFits w64 (pos n)
 done-fits e h = record { sfits = subst Fits e h }

@@ -10,7 +10,7 @@ use lib.ListN.{length, getD, set, length-set}
 use lib.Seq.{set-getD, set-set}
 use borrow.Author.Tests.{ne-eqb, eq-eqb}
 use Rattle.cells.specs.Columns.{pick}
-use Rattle.nodes.specs.Nodes.{Field, Head, Key, Value, Next, Prev, Chain, Queue, Mark, Bucket, Rest, code, Cols, over, with}
+use Rattle.nodes.specs.Nodes.{Field, Head, Key, Value, Next, Prev, Chain, Queue, Freq, Bucket, Rest, code, Cols, over, withColumn}
 
 -- g is another field than f; `refl` where both are named
 abbrev pub Other : Field → Field → Type 0
@@ -19,7 +19,7 @@ Other f g = eqb (code f) (code g) ≡ false
 -- ---- fields
 
 fields : List Field
-fields = Head ∷ Key ∷ Value ∷ Next ∷ Prev ∷ Chain ∷ Queue ∷ Mark ∷ Bucket ∷ Rest ∷ []
+fields = Head ∷ Key ∷ Value ∷ Next ∷ Prev ∷ Chain ∷ Queue ∷ Freq ∷ Bucket ∷ Rest ∷ []
 
 named : (f : Field) → getD fields (code f) Rest ≡ f
 unfolding fields
@@ -30,7 +30,7 @@ named Next = refl
 named Prev = refl
 named Chain = refl
 named Queue = refl
-named Mark = refl
+named Freq = refl
 named Bucket = refl
 named Rest = refl
 
@@ -47,8 +47,8 @@ pub over-at : (c : Cols) (f : Field) (i v : ℕ) (g : Field) → over c f i v g 
 unfolding over
 over-at c f i v g = refl
 
-pub with-at : (c : Cols) (f : Field) (l : List ℕ) (g : Field) → with c f l g ≡ pick (eqb (code f) (code g)) l (c g)
-unfolding with
+pub with-at : (c : Cols) (f : Field) (l : List ℕ) (g : Field) → withColumn c f l g ≡ pick (eqb (code f) (code g)) l (c g)
+unfolding withColumn
 with-at c f l g = refl
 
 pub over-own : (c : Cols) (f : Field) (i v : ℕ) → over c f i v f ≡ set (c f) i v
@@ -59,12 +59,12 @@ pub over-other : (c : Cols) (f : Field) (i v : ℕ) (g : Field) → Other f g �
 unfolding over
 over-other c f i v g o = rw o
 
-pub with-own : (c : Cols) (f : Field) (l : List ℕ) → with c f l f ≡ l
-unfolding with
+pub with-own : (c : Cols) (f : Field) (l : List ℕ) → withColumn c f l f ≡ l
+unfolding withColumn
 with-own c f l = rw (eq-eqb (code f) (code f) refl)
 
-pub with-other : (c : Cols) (f : Field) (l : List ℕ) (g : Field) → Other f g → with c f l g ≡ c g
-unfolding with
+pub with-other : (c : Cols) (f : Field) (l : List ℕ) (g : Field) → Other f g → withColumn c f l g ≡ c g
+unfolding withColumn
 with-other c f l g o = rw o
 
 pub length-over : (c : Cols) (f : Field) (i v : ℕ) (g : Field) → length (over c f i v g) ≡ length (c g)
@@ -104,8 +104,8 @@ change-swap c f g o m n = fun-ext (λ h. side h (ℕ-discrete (code f) (code h))
 -- ---- changes of one field: the last one counts
 
 -- a field's own list put in its place
-pub with-same : (c : Cols) (f : Field) → with c f (c f) ≡ c
-unfolding with
+pub with-same : (c : Cols) (f : Field) → withColumn c f (c f) ≡ c
+unfolding withColumn
 with-same c f = change-same c f (λ _. c f) refl
 
 -- a cell written with what it holds
@@ -113,20 +113,20 @@ pub over-same : (c : Cols) (f : Field) (i : ℕ) → over c f i (getD (c f) i 0)
 unfolding over
 over-same c f i = change-same c f (λ l. set l i (getD (c f) i 0)) (set-getD (c f) i 0)
 
-pub with-with : (c : Cols) (f : Field) (k l : List ℕ) → with (with c f k) f l ≡ with c f l
-unfolding with
+pub with-with : (c : Cols) (f : Field) (k l : List ℕ) → withColumn (withColumn c f k) f l ≡ withColumn c f l
+unfolding withColumn
 with-with c f k l = change-twice c f (λ _. k) (λ _. l)
 
-pub with-over : (c : Cols) (f : Field) (i v : ℕ) (l : List ℕ) → with (over c f i v) f l ≡ with c f l
-unfolding over with
+pub with-over : (c : Cols) (f : Field) (i v : ℕ) (l : List ℕ) → withColumn (over c f i v) f l ≡ withColumn c f l
+unfolding over withColumn
 with-over c f i v l = change-twice c f (λ x. set x i v) (λ _. l)
 
-pub over-in : (c : Cols) (f : Field) (l : List ℕ) (i v : ℕ) → over (with c f l) f i v ≡ with c f (set l i v)
-unfolding over with
+pub over-in : (c : Cols) (f : Field) (l : List ℕ) (i v : ℕ) → over (withColumn c f l) f i v ≡ withColumn c f (set l i v)
+unfolding over withColumn
 over-in c f l i v = change-twice c f (λ _. l) (λ x. set x i v)
 
 -- a cell changed is its field changed
-pub over-with : (c : Cols) (f : Field) (i v : ℕ) → over c f i v ≡ with c f (set (c f) i v)
+pub over-with : (c : Cols) (f : Field) (i v : ℕ) → over c f i v ≡ withColumn c f (set (c f) i v)
 over-with c f i v = ap (λ (d : Cols). over d f i v) (sym (with-same c f)) ∙ over-in c f (c f) i v
 
 pub over-over : (c : Cols) (f : Field) (i v w : ℕ) → over (over c f i v) f i w ≡ over c f i w
@@ -135,14 +135,14 @@ over-over c f i v w = rw (over-with c f i v, over-in, set-set, over-with c f i w
 -- ---- changes of two fields: their order does not count
 
 module _ (c : Cols) (f g : Field) (o : Other f g) where
-  pub with-swap : (k l : List ℕ) → with (with c f k) g l ≡ with (with c g l) f k
-  unfolding with
+  pub with-swap : (k l : List ℕ) → withColumn (withColumn c f k) g l ≡ withColumn (withColumn c g l) f k
+  unfolding withColumn
   with-swap k l = change-swap c f g o (λ _. k) (λ _. l)
 
   pub over-swap : (i v j w : ℕ) → over (over c f i v) g j w ≡ over (over c g j w) f i v
   unfolding over
   over-swap i v j w = change-swap c f g o (λ x. set x i v) (λ x. set x j w)
 
-  pub over-with-swap : (i v : ℕ) (l : List ℕ) → with (over c f i v) g l ≡ over (with c g l) f i v
-  unfolding over with
+  pub over-with-swap : (i v : ℕ) (l : List ℕ) → withColumn (over c f i v) g l ≡ over (withColumn c g l) f i v
+  unfolding over withColumn
   over-with-swap i v l = change-swap c f g o (λ x. set x i v) (λ _. l)

@@ -5,12 +5,12 @@ use Prim.Native.Nat.{ℕ, _+_, _*_, _≤_, _<_}
 use mathlib.Core.List.{List, [], _∷_}
 use lib.Dec.{eqb}
 use lib.ListN.{length, getD, set, drop}
-use Rattle.cells.specs.Columns.{Place, column, pick}
+use Rattle.cells.specs.Columns.{Span, column, pick}
 use Rattle.nodes.specs.declared.Shape.{Shape}
 
 -- a field of the store; `Rest` is what stands behind it, a field too so that one equation says that it stays
 pub data Field : Type 0 where
-  Head Key Value Next Prev Chain Queue Mark Bucket Rest : Field
+  Head Key Value Next Prev Chain Queue Freq Bucket Rest : Field
 
 -- a field's row in the table below
 abbrev pub code : Field → ℕ
@@ -21,7 +21,7 @@ code Next = 3
 code Prev = 4
 code Chain = 5
 code Queue = 6
-code Mark = 7
+code Freq = 7
 code Bucket = 8
 code Rest = 9
 
@@ -34,16 +34,16 @@ abbrev pub used : Shape → ℕ
 used z = heads z + 2 * z .buckets
 
 -- a field of w bytes at an offset in each node; the sentinels are nodes too
-abbrev inNode : Shape → ℕ → ℕ → Place
+abbrev inNode : Shape → ℕ → ℕ → Span
 inNode z off w = record { start = 128 + off; stride = 24; width = w; rows = z .room + 4 }
 
 -- no cells, where the store ends
-abbrev pub end : Shape → Place
+abbrev pub end : Shape → Span
 end z = record { start = used z; stride = 0; width = 0; rows = 0 }
 
 -- the layout, in the order of the fields
-abbrev pub table : Shape → List Place
-table z =
+abbrev pub layout : Shape → List Span
+layout z =
     record { start = 0; stride = 8; width = 8; rows = 16 }
     ∷ inNode z 0 8
     ∷ inNode z 8 8
@@ -56,8 +56,8 @@ table z =
     ∷ []
 
 -- where a field's cells are
-abbrev pub place : Shape → Field → Place
-place z f = getD (table z) (code f) (end z)
+abbrev pub spanOf : Shape → Field → Span
+spanOf z f = getD (layout z) (code f) (end z)
 
 -- what proofs see of a store: a list of numbers for each field
 abbrev pub Cols : Type 0
@@ -65,15 +65,15 @@ Cols = Field → List ℕ
 
 -- the store as columns
 unfoldable pub cols : Shape → List ℕ → Cols
-cols z s f = pick (eqb (code f) (code Rest)) (drop (used z) s) (column (place z f) s)
+cols z s f = pick (eqb (code f) (code Rest)) (drop (used z) s) (column (spanOf z f) s)
 
 -- the columns with v in cell i of f, and nothing else changed
 unfoldable pub over : Cols → Field → ℕ → ℕ → Cols
 over c f i v g = pick (eqb (code f) (code g)) (set (c g) i v) (c g)
 
 -- the columns with l for the whole of f, and nothing else changed
-unfoldable pub with : Cols → Field → List ℕ → Cols
-with c f l g = pick (eqb (code f) (code g)) l (c g)
+unfoldable pub withColumn : Cols → Field → List ℕ → Cols
+withColumn c f l g = pick (eqb (code f) (code g)) l (c g)
 
 -- what every function asks of a store: there are nodes and buckets, two bytes number them, and the bytes are there
 pub record Room (z : Shape) (s : List ℕ) : Type 0 where
@@ -84,9 +84,9 @@ pub record Room (z : Shape) (s : List ℕ) : Type 0 where
   pub fits : used z ≤ length s
 
 -- v was written to cell i of f, and nothing else changed
-pub record Wrote (z : Shape) (s t : List ℕ) (f : Field) (i v : ℕ) : Type 0 where
+pub record SetsField (z : Shape) (s t : List ℕ) (f : Field) (i v : ℕ) : Type 0 where
   pub columns : cols z t ≡ over (cols z s) f i v
 
 -- r stands in cell i of f
-pub record Reads (z : Shape) (s : List ℕ) (f : Field) (i r : ℕ) : Type 0 where
+pub record GetsField (z : Shape) (s : List ℕ) (f : Field) (i r : ℕ) : Type 0 where
   pub value : r ≡ getD (cols z s f) i 0

@@ -3,7 +3,7 @@
 // lent slice of bytes (the fixed memory of the port). A contract here speaks of columns alone, so
 // that nothing above sees a byte.
 ghost use Prim.Native.Nat.{_+_, _<_};
-ghost use Rattle.nodes.specs.Nodes.{Field, Room, Wrote, Reads};
+ghost use Rattle.nodes.specs.Nodes.{Field, Room, SetsField, GetsField};
 
 // Where the first cell of each field is; a node's fields come again every NODE bytes.
 const HEAD: usize = 0;
@@ -20,7 +20,7 @@ const CHAIN: usize = 148;
 
 const QUEUE: usize = 150;
 
-const MARK: usize = 151;
+const FREQ: usize = 151;
 
 const NODES: usize = 128;
 
@@ -36,49 +36,49 @@ pub struct Shape {
 
 pub fn head_of(s: &[u8], z: Shape, i: usize) -> u64
     requires { ⌜ Room z (now s) × (i < 16) ⌝ }
-    ensures { λ r. ⌜ Reads z (now (s .entry)) Field.Head i r ⌝ }
+    ensures { λ r. ⌜ GetsField z (now (s .entry)) Field.Head i r ⌝ }
 {
     cells::get64(s, HEAD + 8 * i)
 }
 
 pub fn set_head(s: &mut [u8], z: Shape, i: usize, v: u64)
     requires { ⌜ Room z (now s) × (i < 16) ⌝ }
-    ensures { λ _. ⌜ Wrote z (now (s .entry)) (now (s .exit)) Field.Head i v ⌝ }
+    ensures { λ _. ⌜ SetsField z (now (s .entry)) (now (s .exit)) Field.Head i v ⌝ }
 {
     cells::put64(s, HEAD + 8 * i, v);
 }
 
 pub fn key_of(s: &[u8], z: Shape, i: usize) -> u64
     requires { ⌜ Room z (now s) × (i < z .room + 4) ⌝ }
-    ensures { λ r. ⌜ Reads z (now (s .entry)) Field.Key i r ⌝ }
+    ensures { λ r. ⌜ GetsField z (now (s .entry)) Field.Key i r ⌝ }
 {
     cells::get64(s, KEY + NODE * i)
 }
 
 pub fn set_key(s: &mut [u8], z: Shape, i: usize, v: u64)
     requires { ⌜ Room z (now s) × (i < z .room + 4) ⌝ }
-    ensures { λ _. ⌜ Wrote z (now (s .entry)) (now (s .exit)) Field.Key i v ⌝ }
+    ensures { λ _. ⌜ SetsField z (now (s .entry)) (now (s .exit)) Field.Key i v ⌝ }
 {
     cells::put64(s, KEY + NODE * i, v);
 }
 
 pub fn value_of(s: &[u8], z: Shape, i: usize) -> u64
     requires { ⌜ Room z (now s) × (i < z .room + 4) ⌝ }
-    ensures { λ r. ⌜ Reads z (now (s .entry)) Field.Value i r ⌝ }
+    ensures { λ r. ⌜ GetsField z (now (s .entry)) Field.Value i r ⌝ }
 {
     cells::get64(s, VALUE + NODE * i)
 }
 
 pub fn set_value(s: &mut [u8], z: Shape, i: usize, v: u64)
     requires { ⌜ Room z (now s) × (i < z .room + 4) ⌝ }
-    ensures { λ _. ⌜ Wrote z (now (s .entry)) (now (s .exit)) Field.Value i v ⌝ }
+    ensures { λ _. ⌜ SetsField z (now (s .entry)) (now (s .exit)) Field.Value i v ⌝ }
 {
     cells::put64(s, VALUE + NODE * i, v);
 }
 
 pub fn next_of(s: &[u8], z: Shape, i: usize) -> usize
     requires { ⌜ Room z (now s) × (i < z .room + 4) ⌝ }
-    ensures { λ r. ⌜ Reads z (now (s .entry)) Field.Next i r ⌝ }
+    ensures { λ r. ⌜ GetsField z (now (s .entry)) Field.Next i r ⌝ }
     ensures { λ r. ⌜ r < 65536 ⌝ }
 {
     cells::get16(s, NEXT + NODE * i) as usize
@@ -86,14 +86,14 @@ pub fn next_of(s: &[u8], z: Shape, i: usize) -> usize
 
 pub fn set_next(s: &mut [u8], z: Shape, i: usize, v: usize)
     requires { ⌜ Room z (now s) × (i < z .room + 4) × (v < 65536) ⌝ }
-    ensures { λ _. ⌜ Wrote z (now (s .entry)) (now (s .exit)) Field.Next i v ⌝ }
+    ensures { λ _. ⌜ SetsField z (now (s .entry)) (now (s .exit)) Field.Next i v ⌝ }
 {
     cells::put16(s, NEXT + NODE * i, v as u16);
 }
 
 pub fn prev_of(s: &[u8], z: Shape, i: usize) -> usize
     requires { ⌜ Room z (now s) × (i < z .room + 4) ⌝ }
-    ensures { λ r. ⌜ Reads z (now (s .entry)) Field.Prev i r ⌝ }
+    ensures { λ r. ⌜ GetsField z (now (s .entry)) Field.Prev i r ⌝ }
     ensures { λ r. ⌜ r < 65536 ⌝ }
 {
     cells::get16(s, PREV + NODE * i) as usize
@@ -101,14 +101,14 @@ pub fn prev_of(s: &[u8], z: Shape, i: usize) -> usize
 
 pub fn set_prev(s: &mut [u8], z: Shape, i: usize, v: usize)
     requires { ⌜ Room z (now s) × (i < z .room + 4) × (v < 65536) ⌝ }
-    ensures { λ _. ⌜ Wrote z (now (s .entry)) (now (s .exit)) Field.Prev i v ⌝ }
+    ensures { λ _. ⌜ SetsField z (now (s .entry)) (now (s .exit)) Field.Prev i v ⌝ }
 {
     cells::put16(s, PREV + NODE * i, v as u16);
 }
 
 pub fn chain_of(s: &[u8], z: Shape, i: usize) -> usize
     requires { ⌜ Room z (now s) × (i < z .room + 4) ⌝ }
-    ensures { λ r. ⌜ Reads z (now (s .entry)) Field.Chain i r ⌝ }
+    ensures { λ r. ⌜ GetsField z (now (s .entry)) Field.Chain i r ⌝ }
     ensures { λ r. ⌜ r < 65536 ⌝ }
 {
     cells::get16(s, CHAIN + NODE * i) as usize
@@ -116,14 +116,14 @@ pub fn chain_of(s: &[u8], z: Shape, i: usize) -> usize
 
 pub fn set_chain(s: &mut [u8], z: Shape, i: usize, v: usize)
     requires { ⌜ Room z (now s) × (i < z .room + 4) × (v < 65536) ⌝ }
-    ensures { λ _. ⌜ Wrote z (now (s .entry)) (now (s .exit)) Field.Chain i v ⌝ }
+    ensures { λ _. ⌜ SetsField z (now (s .entry)) (now (s .exit)) Field.Chain i v ⌝ }
 {
     cells::put16(s, CHAIN + NODE * i, v as u16);
 }
 
 pub fn queue_of(s: &[u8], z: Shape, i: usize) -> usize
     requires { ⌜ Room z (now s) × (i < z .room + 4) ⌝ }
-    ensures { λ r. ⌜ Reads z (now (s .entry)) Field.Queue i r ⌝ }
+    ensures { λ r. ⌜ GetsField z (now (s .entry)) Field.Queue i r ⌝ }
     ensures { λ r. ⌜ r < 256 ⌝ }
 {
     cells::get8(s, QUEUE + NODE * i) as usize
@@ -131,29 +131,29 @@ pub fn queue_of(s: &[u8], z: Shape, i: usize) -> usize
 
 pub fn set_queue(s: &mut [u8], z: Shape, i: usize, v: usize)
     requires { ⌜ Room z (now s) × (i < z .room + 4) × (v < 256) ⌝ }
-    ensures { λ _. ⌜ Wrote z (now (s .entry)) (now (s .exit)) Field.Queue i v ⌝ }
+    ensures { λ _. ⌜ SetsField z (now (s .entry)) (now (s .exit)) Field.Queue i v ⌝ }
 {
     cells::put8(s, QUEUE + NODE * i, v as u8);
 }
 
-pub fn mark_of(s: &[u8], z: Shape, i: usize) -> usize
+pub fn freq_of(s: &[u8], z: Shape, i: usize) -> usize
     requires { ⌜ Room z (now s) × (i < z .room + 4) ⌝ }
-    ensures { λ r. ⌜ Reads z (now (s .entry)) Field.Mark i r ⌝ }
+    ensures { λ r. ⌜ GetsField z (now (s .entry)) Field.Freq i r ⌝ }
     ensures { λ r. ⌜ r < 256 ⌝ }
 {
-    cells::get8(s, MARK + NODE * i) as usize
+    cells::get8(s, FREQ + NODE * i) as usize
 }
 
-pub fn set_mark(s: &mut [u8], z: Shape, i: usize, v: usize)
+pub fn set_freq(s: &mut [u8], z: Shape, i: usize, v: usize)
     requires { ⌜ Room z (now s) × (i < z .room + 4) × (v < 256) ⌝ }
-    ensures { λ _. ⌜ Wrote z (now (s .entry)) (now (s .exit)) Field.Mark i v ⌝ }
+    ensures { λ _. ⌜ SetsField z (now (s .entry)) (now (s .exit)) Field.Freq i v ⌝ }
 {
-    cells::put8(s, MARK + NODE * i, v as u8);
+    cells::put8(s, FREQ + NODE * i, v as u8);
 }
 
 pub fn bucket_of(s: &[u8], z: Shape, i: usize) -> usize
     requires { ⌜ Room z (now s) × (i < z .buckets) ⌝ }
-    ensures { λ r. ⌜ Reads z (now (s .entry)) Field.Bucket i r ⌝ }
+    ensures { λ r. ⌜ GetsField z (now (s .entry)) Field.Bucket i r ⌝ }
     ensures { λ r. ⌜ r < 65536 ⌝ }
 {
     cells::get16(s, NODES + NODE * (z.room + SENTINELS) + 2 * i) as usize
@@ -161,7 +161,7 @@ pub fn bucket_of(s: &[u8], z: Shape, i: usize) -> usize
 
 pub fn set_bucket(s: &mut [u8], z: Shape, i: usize, v: usize)
     requires { ⌜ Room z (now s) × (i < z .buckets) × (v < 65536) ⌝ }
-    ensures { λ _. ⌜ Wrote z (now (s .entry)) (now (s .exit)) Field.Bucket i v ⌝ }
+    ensures { λ _. ⌜ SetsField z (now (s .entry)) (now (s .exit)) Field.Bucket i v ⌝ }
 {
     cells::put16(s, NODES + NODE * (z.room + SENTINELS) + 2 * i, v as u16);
 }

@@ -5,7 +5,7 @@ use mathlib.Core.List.{List, [], _∷_}
 use Prim.Native.Nat.{ℕ, _+_, _<_}
 use native.Mathlib.Omega.{arith}
 use lib.ListN.{set}
-use Rattle.nodes.specs.Nodes.{Key, Value, Mark, Next, Queue, Cols, cols, over, Room, Reads}
+use Rattle.nodes.specs.Nodes.{Key, Value, Freq, Next, Queue, Cols, cols, over, Room, GetsField}
 use Rattle.nodes.specs.declared.Shape.{Shape}
 use Rattle.lists.specs.Ring.{First}
 use Rattle.lists.specs.Pool.{upd}
@@ -46,13 +46,13 @@ module _ (z : Shape) (c : Cols) (x k v : ℕ) where
   unfolding entered withFirst over
   entered-values = refl
 
-  entered-marks : entered z c x k v Mark ≡ set (c Mark) x 0
+  entered-freqs : entered z c x k v Freq ≡ set (c Freq) x 0
   unfolding entered withFirst over
-  entered-marks = refl
+  entered-freqs = refl
 
 -- ---- fill
 
-module _ {z : Shape} {s : List ℕ} {t k : ℕ} (q : CanFill z s t k) {x : ℕ} (h : Reads z s Next (z .room + 0) x) where
+module _ {z : Shape} {s : List ℕ} {t k : ℕ} (q : CanFill z s t k) {x : ℕ} (h : GetsField z s Next (z .room + 0) x) where
   abbrev listed : Lists z (cols z s) (listsOf z (cols z s))
   listed = q .pooled .carries .lists
 
@@ -89,7 +89,7 @@ module _ {z : Shape} {s : List ℕ} {t k : ℕ} (q : CanFill z s t k) {x : ℕ} 
           was = free-first .is;
           keys = m .untouched .keys ∙ rw (e .columns) (entered-keys z (cols z s) x k v);
           values = m .untouched .values ∙ rw (e .columns) (entered-values z (cols z s) x k v);
-          marks = m .untouched .marks ∙ rw (e .columns) (entered-marks z (cols z s) x k v);
+          freqs = m .untouched .freqs ∙ rw (e .columns) (entered-freqs z (cols z s) x k v);
           aside = record { limits = λ i b. m .untouched .heads-below i b ∙ a .limits i b; rest = m .untouched .rest ∙ a .rest };
           carries = r;
         }

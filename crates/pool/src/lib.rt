@@ -4,7 +4,7 @@
 ghost use Prim.Native.Nat.{_<_};
 ghost use Rattle.cells.specs.Decides.{Decides};
 ghost use Rattle.nodes.specs.Nodes.{Room};
-ghost use Rattle.pool.specs.Carries.{Pooled, CanMove, Moved, CanRelease, Released, CanFill, Filled, Laid};
+ghost use Rattle.pool.specs.Carries.{Pooled, CanMove, Moved, CanRelease, Released, CanFill, Filled, PoolSetUp};
 ghost use Rattle.pool.specs.Relist.{CanRelist, Relisted};
 ghost use Rattle.pool.specs.Entry.{Entered};
 use nodes::Shape;
@@ -15,8 +15,8 @@ fn relist(s: &mut [u8], z: Shape, t: usize, u: usize, x: usize)
     requires { ⌜ CanRelist z (now s) t u x ⌝ }
     ensures { λ _. ⌜ Relisted z (now (s .entry)) (now (s .exit)) t u x ⌝ }
 {
-    lists::take(s, z, t, x);
-    lists::push(s, z, u, x);
+    lists::detach(s, z, t, x);
+    lists::attach(s, z, u, x);
 }
 
 // Moves node x from list t to the head of list u, which may be the same. It keeps its entry.
@@ -45,7 +45,7 @@ fn enter(s: &mut [u8], z: Shape, x: usize, k: u64, v: u64)
 {
     key_index::add(s, z, x, k);
     nodes::set_value(s, z, x, v);
-    nodes::set_mark(s, z, x, 0);
+    nodes::set_freq(s, z, x, 0);
 }
 
 // Fills a free node with a key that no node in use has, at the head of list t, and answers the node.
@@ -63,7 +63,7 @@ pub fn fill(s: &mut [u8], z: Shape, t: usize, k: u64, v: u64) -> usize
 // Sets a pool up from any bytes: every node is free, and no key is found.
 pub fn set_up(s: &mut [u8], z: Shape)
     requires { ⌜ Room z (now s) ⌝ }
-    ensures { λ _. ⌜ Laid z (now (s .entry)) (now (s .exit)) ⌝ }
+    ensures { λ _. ⌜ PoolSetUp z (now (s .entry)) (now (s .exit)) ⌝ }
 {
     lists::set_up(s, z);
     key_index::set_up(s, z);

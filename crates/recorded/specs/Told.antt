@@ -5,6 +5,6 @@ use Rattle.s3_fifo.specs.Calls.{Said, gave, turned}
 use Rattle.recorded.specs.declared.Told.{Told}
 
 -- number 0 and the reply bytes; or a refusal's number and its detail
-abbrev pub told : Said → Told
-told (gave n) = record { number = 0; detail = 0; count = n }
-told (turned n d) = record { number = n; detail = d; count = 0 }
+abbrev pub toldOf : Said → Told
+toldOf (gave n) = record { number = 0; detail = 0; count = n }
+toldOf (turned n d) = record { number = n; detail = d; count = 0 }

@@ -6,7 +6,7 @@ ghost use mathlib.Core.Path.{_≡_};
 ghost use Prim.Native.Nat.{_≤_};
 ghost use lib.ListN.{length};
 ghost use Rattle.s3_fifo.specs.Calls.{gave, turned, createdSays, ranSays};
-ghost use Rattle.recorded.specs.Told.{told};
+ghost use Rattle.recorded.specs.Told.{toldOf};
 use libc::STDOUT_FILENO;
 use s3_fifo::Creation;
 use s3_fifo::Ran;
@@ -55,7 +55,7 @@ struct Tally {
 }
 
 fn accepted(count: usize) -> Told
-    ensures { λ r. ⌜ r ≡ told (gave count) ⌝ }
+    ensures { λ r. ⌜ r ≡ toldOf (gave count) ⌝ }
 {
     Told {
         number: 0,
@@ -65,7 +65,7 @@ fn accepted(count: usize) -> Told
 }
 
 fn refused(number: u8, detail: usize) -> Told
-    ensures { λ r. ⌜ r ≡ told (turned number detail) ⌝ }
+    ensures { λ r. ⌜ r ≡ toldOf (turned number detail) ⌝ }
 {
     Told {
         number: number as u64,
@@ -75,7 +75,7 @@ fn refused(number: u8, detail: usize) -> Told
 }
 
 fn created_told(created: Creation) -> Told
-    ensures { λ r. ⌜ r ≡ told (createdSays created) ⌝ }
+    ensures { λ r. ⌜ r ≡ toldOf (createdSays created) ⌝ }
 {
     match created {
         Creation::Made => accepted(0),
@@ -85,7 +85,7 @@ fn created_told(created: Creation) -> Told
 }
 
 fn ran_told(ran: Ran) -> Told
-    ensures { λ r. ⌜ r ≡ told (ranSays ran) ⌝ }
+    ensures { λ r. ⌜ r ≡ toldOf (ranSays ran) ⌝ }
 {
     match ran {
         Ran::Done(n) => accepted(n),

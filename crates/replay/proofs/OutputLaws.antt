@@ -26,9 +26,9 @@ use Rattle.store.specs.Holds.{Holds}
 use Rattle.s3_fifo.specs.declared.Creation.{Creation}
 use Rattle.s3_fifo.specs.declared.Creation.the-variants.{Made, Refused, ShortStore}
 use Rattle.s3_fifo.specs.declared.Ran.{Ran}
-use Rattle.s3_fifo.specs.Calls.{Said, gave, turned, createdSays, ranSays, ReadsAs, Settled, Leaves, Created, Called}
+use Rattle.s3_fifo.specs.Calls.{Said, gave, turned, createdSays, ranSays, ReadsAs, Settled, Follows, Created, Called}
 use Rattle.s3_fifo.proofs.OnceLaws.{reads-once}
-use Rattle.replay.specs.Output.{noRecord, noBytes, shown, onCreated, onAsked, outputFor, Finished}
+use Rattle.replay.specs.Output.{noRecord, noBytes, printed, onCreated, onAsked, outputFor, Finished}
 
 -- ---- the record of a refusal
 
@@ -51,7 +51,7 @@ refusal-wrote {p} n d h e₁ e₂ e₃ e₄ =
 
 -- ---- what a call leaves
 
-finish-shown : (v : Verdict) (a : Said) (s s′ p p′ p″ : List ℕ) (r : ℕ) → Leaves v a s s′ p p′ → Finished a p′ p″ r → Wrote p 0 (shown v) p″ r
+finish-shown : (v : Verdict) (a : Said) (s s′ p p′ p″ : List ℕ) (r : ℕ) → Follows v a s s′ p p′ → Finished a p′ p″ r → Wrote p 0 (printed v) p″ r
 unfolding splice
 finish-shown (refused n d) a s s′ p p′ p″ r l f =
     let f′ : Finished (turned n d) p′ p″ r = subst (λ (x : Said). Finished x p′ p″ r) (l .0) f in
@@ -62,7 +62,7 @@ finish-shown (done σ bs) a s s′ p p′ p″ r l f =
 
 -- ---- what a creation leaves
 
-turned-refused : (v : Verdict) (n d : ℕ) (s s′ p p′ : List ℕ) → Leaves v (turned n d) s s′ p p′ → v ≡ refused n d
+turned-refused : (v : Verdict) (n d : ℕ) (s s′ p p′ : List ℕ) → Follows v (turned n d) s s′ p p′ → v ≡ refused n d
 turned-refused (refused m e) n d s s′ p p′ l = let h = l .0 in cc
 turned-refused (done σ bs) n d s s′ p p′ l = let h = l .0 in let z : _≡_ {A = ℕ} 0 1 = cc in absurd (omega arith)
 
@@ -73,7 +73,7 @@ record SetUp (v : Verdict) (s s′ : List ℕ) : Type 0 where
   is : v ≡ done state nothing
   settled : Settled s s′ state
 
-gave-done : (v : Verdict) (n : ℕ) (s s′ p p′ : List ℕ) → Leaves v (gave n) s s′ p p′ → SetUp v s s′
+gave-done : (v : Verdict) (n : ℕ) (s s′ p p′ : List ℕ) → Follows v (gave n) s s′ p p′ → SetUp v s s′
 gave-done (refused m e) n s s′ p p′ l = let h = l .0 in let z : _≡_ {A = ℕ} 0 1 = cc in absurd (omega arith)
 gave-done (done σ bs) n s s′ p p′ l = record { state = σ; nothing = bs; is = refl; settled = l .1 }
 
@@ -81,28 +81,28 @@ module _ {settings : Settings} {s s′ : List ℕ} {created : Creation} (long : 
   abbrev creation : Verdict
   creation = create (settings .capacity) (settings .«small_ratio») (settings .«ghost_ratio») storeBytes
 
-  left-as : (q : Creation) → created ≡ q → Leaves creation (createdSays q) s s′ [] []
+  left-as : (q : Creation) → created ≡ q → Follows creation (createdSays q) s s′ [] []
   left-as q e = rw (← long, e) at (c .leaves)
 
   output-is : {v : Verdict} → creation ≡ v → (q p : List ℕ) {p′ : List ℕ} {r : ℕ}
-      → Wrote p 0 (shown (onCreated v q (length p))) p′ r → Wrote p 0 (shown (onAsked (asksOf settings) q (length p))) p′ r
-  output-is e q p {p′} {r} w = subst (λ (x : Verdict). Wrote p 0 (shown (onCreated x q (length p))) p′ r) (sym e) w
+      → Wrote p 0 (printed (onCreated v q (length p))) p′ r → Wrote p 0 (printed (onAsked (asksOf settings) q (length p))) p′ r
+  output-is e q p {p′} {r} w = subst (λ (x : Verdict). Wrote p 0 (printed (onCreated x q (length p))) p′ r) (sym e) w
 
   pub run-refused : {x : Refusal} {n r : ℕ} {p′ : List ℕ} (q p : List ℕ) → created ≡ Refused x → n ≡ numberOf x
-      → Wrote p 0 (noRecord n 0) p′ r → Wrote p 0 (shown (onAsked (asksOf settings) q (length p))) p′ r
+      → Wrote p 0 (noRecord n 0) p′ r → Wrote p 0 (printed (onAsked (asksOf settings) q (length p))) p′ r
   run-refused {x} {n} {r} {p′} q p e en w =
       output-is (turned-refused creation (numberOf x) 0 s s′ [] [] (left-as (Refused x) e)) q p (subst (λ (k : ℕ). Wrote p 0 (noRecord k 0) p′ r) en w)
 
   pub run-short : {r : ℕ} {p′ : List ℕ} (q p : List ℕ) → created ≡ ShortStore
-      → Wrote p 0 (noRecord 6 0) p′ r → Wrote p 0 (shown (onAsked (asksOf settings) q (length p))) p′ r
+      → Wrote p 0 (noRecord 6 0) p′ r → Wrote p 0 (printed (onAsked (asksOf settings) q (length p))) p′ r
   run-short q p e w = output-is (turned-refused creation 6 0 s s′ [] [] (left-as ShortStore e)) q p w
 
   pub run-made : {s″ q p p′ p″ : List ℕ} {ran : Ran} {r : ℕ} → created ≡ Made → Called s′ q p ran s″ p′ → Finished (ranSays ran) p′ p″ r
-      → Wrote p 0 (shown (onAsked (asksOf settings) q (length p))) p″ r
+      → Wrote p 0 (printed (onAsked (asksOf settings) q (length p))) p″ r
   run-made {s″} {q} {p} {p′} {p″} {ran} {r} e d f =
       let u = gave-done creation 0 s s′ [] [] (left-as Made e) in
       let known : d .store ≡ reads (u .state) = reads-once s′ (d .store) (reads (u .state)) (d .store-is) (omega (arith, long, u .settled .same-length), u .settled .holds) in
-      let l : Leaves (call (reads (u .state)) q (length p)) (ranSays ran) s′ s″ p p′ = subst (λ (x : Reads). Leaves (call x q (length p)) (ranSays ran) s′ s″ p p′) known (d .leaves) in
+      let l : Follows (call (reads (u .state)) q (length p)) (ranSays ran) s′ s″ p p′ = subst (λ (x : Reads). Follows (call x q (length p)) (ranSays ran) s′ s″ p p′) known (d .leaves) in
       output-is (u .is) q p (finish-shown (call (reads (u .state)) q (length p)) (ranSays ran) s′ s″ p p′ p″ r l f)
 
 -- ---- the settings in front
@@ -124,7 +124,7 @@ module _ (s : List ℕ) {read : Read} (e : askedOf read ≡ settingsOf s) where
   pub reply-bad : {p p′ : List ℕ} {r : ℕ} → read ≡ Bad → Wrote p 0 (noRecord 9 0) p′ r → Wrote p 0 (outputFor s (length p)) p′ r
   unfolding outputFor
   reply-bad {p} {p′} {r} h w =
-      subst (λ (a : Asked). Wrote p 0 (shown (onAsked a (drop settingsBytes s) (length p))) p′ r) (sym (ap askedOf h) ∙ e) w
+      subst (λ (a : Asked). Wrote p 0 (printed (onAsked a (drop settingsBytes s) (length p))) p′ r) (sym (ap askedOf h) ∙ e) w
 
   module _ {settings : Settings} (h : read ≡ Asked· settings) where
     asked-is : asksOf settings ≡ settingsOf s
@@ -137,9 +137,9 @@ module _ (s : List ℕ) {read : Read} (e : askedOf read ≡ settingsOf s) where
     rest = take-all (length s - settingsBytes) (drop settingsBytes s) (simp length-drop (omega arith))
 
     pub reply-asked : {p p′ : List ℕ} {r : ℕ}
-        → Wrote p 0 (shown (onAsked (asksOf settings) (take (length s - settingsBytes) (drop settingsBytes s)) (length p))) p′ r
+        → Wrote p 0 (printed (onAsked (asksOf settings) (take (length s - settingsBytes) (drop settingsBytes s)) (length p))) p′ r
         → Wrote p 0 (outputFor s (length p)) p′ r
     unfolding outputFor
     reply-asked {p} {p′} {r} w =
-        let w′ = subst (λ (q : List ℕ). Wrote p 0 (shown (onAsked (asksOf settings) q (length p))) p′ r) rest w in
-        subst (λ (a : Asked). Wrote p 0 (shown (onAsked a (drop settingsBytes s) (length p))) p′ r) asked-is w′
+        let w′ = subst (λ (q : List ℕ). Wrote p 0 (printed (onAsked (asksOf settings) q (length p))) p′ r) rest w in
+        subst (λ (a : Asked). Wrote p 0 (printed (onAsked a (drop settingsBytes s) (length p))) p′ r) asked-is w′

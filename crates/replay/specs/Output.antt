@@ -18,9 +18,9 @@ abbrev pub noBytes : ℕ
 noBytes = 11
 
 -- a verdict as bytes
-abbrev pub shown : Verdict → List ℕ
-shown (refused n d) = noRecord n d
-shown (done σ bs) = bs
+abbrev pub printed : Verdict → List ℕ
+printed (refused n d) = noRecord n d
+printed (done σ bs) = bs
 
 -- what follows the settings is one call on the cache that they made, with so much room for the replies
 abbrev pub onCreated : Verdict → List ℕ → ℕ → Verdict
@@ -35,7 +35,7 @@ onAsked (asks capacity small ghost) q room = onCreated (create capacity small gh
 -- the output for an input
 unfoldable pub outputFor : List ℕ → ℕ → List ℕ
 unfolding settingsOf create call bytesOf
-outputFor s room = shown (onAsked (settingsOf s) (drop settingsBytes s) room)
+outputFor s room = printed (onAsked (settingsOf s) (drop settingsBytes s) room)
 
 -- after a call: its replies stand already, and a refusal is written over what was there
 abbrev pub Finished : Said → List ℕ → List ℕ → ℕ → Type 0

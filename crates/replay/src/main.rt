@@ -7,7 +7,7 @@ ghost use Rattle.rules.specs.Verdict.{storeBytes};
 ghost use Rattle.sizing.specs.Answers.{asksOf};
 ghost use Rattle.wire.specs.Wire.{Wrote};
 ghost use Rattle.s3_fifo.specs.Calls.{ranSays};
-ghost use Rattle.replay.specs.Output.{noRecord, noBytes, shown, onAsked, outputFor, Finished};
+ghost use Rattle.replay.specs.Output.{noRecord, noBytes, printed, onAsked, outputFor, Finished};
 ghost use Rattle.replay.specs.Input.{Within, AtMost};
 use libc::STDERR_FILENO;
 use libc::STDIN_FILENO;
@@ -80,7 +80,7 @@ fn finish(ran: Ran, replies: &mut [u8]) -> usize
 // Creates a cache in the store, and runs all requests on it as one call.
 fn run_on(store: &mut [u8], settings: Settings, requests: &[u8], replies: &mut [u8]) -> usize
     requires { ⌜ (storeBytes ≡ length (now store)) × (noBytes ≤ length (now replies)) ⌝ }
-    ensures { λ r. ⌜ Wrote (now (replies .entry)) 0 (shown (onAsked (asksOf settings) (now (requests .entry)) (length (now (replies .entry))))) (now (replies .exit)) r ⌝ }
+    ensures { λ r. ⌜ Wrote (now (replies .entry)) 0 (printed (onAsked (asksOf settings) (now (requests .entry)) (length (now (replies .entry))))) (now (replies .exit)) r ⌝ }
 {
     let created = S3FifoCache::create(settings, store);
     match created {

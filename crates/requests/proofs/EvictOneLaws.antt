@@ -7,7 +7,7 @@ use Prim.Native.Nat.{ℕ, _+_, _≤_, _<_}
 use native.Mathlib.Omega.{arith}
 use lib.ListN.{length}
 use borrow.Author.Tests.{lt-ltb, le-ltb}
-use Rattle.nodes.specs.Nodes.{Key, Value, Mark, Reads}
+use Rattle.nodes.specs.Nodes.{Key, Value, Freq, GetsField}
 use Rattle.nodes.specs.declared.Shape.{Shape}
 use Rattle.rules.specs.declared.GuestBlock.{GuestBlock}
 use Rattle.rules.specs.declared.PhysicalBlock.{PhysicalBlock}
@@ -35,7 +35,7 @@ use Rattle.requests.proofs.KeyLaws.{answers, becomes-same, comes-as, co
 
 -- ---- a pop
 
-module _ {z : Shape} {s : List ℕ} {q : Queue} {x : ℕ} (t : Tail z s q x) {f : ℕ} (g : Reads z s Mark x f) where
+module _ {z : Shape} {s : List ℕ} {q : Queue} {x : ℕ} (t : Tail z s q x) {f : ℕ} (g : GetsField z s Freq x f) where
   freq-is : f ≡ t .entry .freq
   freq-is = seat-freq (t .seat) g
 
@@ -48,7 +48,7 @@ module _ {z : Shape} {s : List ℕ} {q : Queue} {x : ℕ} (t : Tail z s q x) {f 
         comes = rw (lt-ltb 0 (t .entry .freq) (omega (arith, freq-is))) (record { becomes = went-back t g b; replies = refl });
       }
 
-  pub pop-out : f ≤ 0 → {a b : ℕ} → Reads z s Key x a → Reads z s Value x b → {s′ : List ℕ} → Freed z s s′ q x
+  pub pop-out : f ≤ 0 → {a b : ℕ} → GetsField z s Key x a → GetsField z s Value x b → {s′ : List ℕ} → Freed z s s′ q x
       → (k : GuestBlock) → k .0 ≡ a → (p : PhysicalBlock) → p .0 ≡ b → Pops z s s′ q (Handed k p)
   pop-out w ra rb m k ek p ep =
       record {

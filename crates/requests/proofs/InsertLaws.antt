@@ -14,7 +14,7 @@ use Rattle.rules.specs.Ghosts.{Removed, without, removeGhost}
 use Rattle.rules.specs.Eviction.{evictIfFull}
 use Rattle.rules.specs.Requests.{apply, onInsert, onNew, admits, arrive}
 use Rattle.rules.proofs.EngineLaws.{split-none}
-use Rattle.rules.proofs.SoundLaws.{Kept, kept-sound, roomy-law, roomy-kept, roomy-less, Unghosted, remove-law}
+use Rattle.rules.proofs.SoundLaws.{Lessened, kept-sound, roomy-law, roomy-kept, roomy-less, Unghosted, remove-law}
 use Rattle.store.specs.declared.Spot.{Spot}
 use Rattle.store.specs.declared.Spot.the-variants.{Ghost, Absent}
 use Rattle.store.specs.Holds.{stateIn, Held, Becomes}
@@ -32,7 +32,7 @@ use Rattle.requests.proofs.KeyLaws.{answers, comes-then, Nowhere, nowhe
 -- ---- room is made
 
 module _ {z : Shape} {s s₁ : List ℕ} {w : Evicted·} (h : Held z s) (m : Makes z s s₁ (evictIfFull (stateIn z s)) w) where
-  kept : Kept (stateIn z s) (evictIfFull (stateIn z s) .state)
+  kept : Lessened (stateIn z s) (evictIfFull (stateIn z s) .state)
   kept = roomy-kept (roomy-law (stateIn z s) (h .sound .fine))
 
   pub makes-held : Held z s₁

@@ -4,7 +4,7 @@ use mathlib.Core.Path.{_≡_, refl, ap, _∙_, subst}
 use mathlib.Core.List.{List, [], _∷_}
 use Prim.Native.Nat.{ℕ, _+_, _<_, min}
 use native.Mathlib.Omega.{arith}
-use Rattle.nodes.specs.Nodes.{Value, Mark, Reads}
+use Rattle.nodes.specs.Nodes.{Value, Freq, GetsField}
 use Rattle.nodes.specs.declared.Shape.{Shape}
 use Rattle.rules.specs.declared.PhysicalBlock.{PhysicalBlock}
 use Rattle.rules.specs.State.{State, maxFreq, withFreq, raise, revalue, putAt, keyed, place, nowhere}
@@ -16,7 +16,7 @@ use Rattle.store.specs.declared.QueueKind.{QueueKind}
 use Rattle.store.specs.declared.Spot.{Spot}
 use Rattle.store.specs.declared.Spot.the-variants.{Resident, Ghost, Absent}
 use Rattle.store.specs.Holds.{stateIn, Keeps, Held, Becomes}
-use Rattle.store.specs.Seats.{kindOf, Marked, Replaced, Freed}
+use Rattle.store.specs.Seats.{queueKind, Marked, Replaced, Freed}
 use Rattle.store.specs.Looks.{Looks}
 use Rattle.store.proofs.KeepsLaws.{seat-node, seat-value, seat-freq, becomes-then}
 use Rattle.wire.specs.declared.Reply.the-variants.{Miss, Hit, Replaced as Replaced·, Gone}
@@ -80,20 +80,20 @@ module _ {z : Shape} {s : List ℕ} {k : ℕ} {r : Spot} (l : Looks z s k r) {q 
   resident-reach h = omega (arith, resident-node h)
 
   -- the raised frequency is that of the rules
-  frequency : {m n : ℕ} → Reads z s Mark x m → n ≡ min maxFreq (m + 1) → n ≡ min maxFreq (l .resident q x e .entry .freq + 1)
+  frequency : {m n : ℕ} → GetsField z s Freq x m → n ≡ min maxFreq (m + 1) → n ≡ min maxFreq (l .resident q x e .entry .freq + 1)
   frequency g w = w ∙ ap (λ y. min maxFreq (y + 1)) (seat-freq (l .resident q x e .seat) g)
 
-  module _ {v : ℕ} (g : Reads z s Value x v) (b : PhysicalBlock) (i : b .0 ≡ v) where
+  module _ {v : ℕ} (g : GetsField z s Value x v) (b : PhysicalBlock) (i : b .0 ≡ v) where
     old : b .0 ≡ l .resident q x e .entry .value
     old = i ∙ seat-value (l .resident q x e .seat) g
 
-    pub get-hit : {s′ : List ℕ} {m n : ℕ} → Reads z s Mark x m → n ≡ min maxFreq (m + 1) → Marked z s s′ x n → {a : Spoken} → a ≡ alone (Hit b) → Answers z s s′ (GT k) a
+    pub get-hit : {s′ : List ℕ} {m n : ℕ} → GetsField z s Freq x m → n ≡ min maxFreq (m + 1) → Marked z s s′ x n → {a : Spoken} → a ≡ alone (Hit b) → Answers z s s′ (GT k) a
     unfolding apply onGet
     get-hit {s′} f w c d =
         let t = l .resident q x e in
-        answers (says (putAt (kindOf q) (t .before) (raise (t .entry) ∷ []) (t .after) (stateIn z s)) (HI (t .entry .value))) (ap (onGet (stateIn z s)) (t .place-is))
-        (subst (λ y. Becomes z s s′ (putAt (kindOf q) (t .before) (withFreq y (t .entry) ∷ []) (t .after) (stateIn z s))) (frequency f w)
-        (c .of (kindOf q) (t .before) (t .entry) (t .after) (t .seat)))
+        answers (says (putAt (queueKind q) (t .before) (raise (t .entry) ∷ []) (t .after) (stateIn z s)) (HI (t .entry .value))) (ap (onGet (stateIn z s)) (t .place-is))
+        (subst (λ y. Becomes z s s′ (putAt (queueKind q) (t .before) (withFreq y (t .entry) ∷ []) (t .after) (stateIn z s))) (frequency f w)
+        (c .of (queueKind q) (t .before) (t .entry) (t .after) (t .seat)))
         (ap spokenOf d ∙ ap (λ y. HI y ∷ []) old)
 
     pub peek-hit : Held z s → {a : Spoken} → a ≡ alone (Hit b) → Answers z s s (PK k) a
@@ -102,19 +102,19 @@ module _ {z : Shape} {s : List ℕ} {k : ℕ} {r : Spot} (l : Looks z s k r) {q 
         let t = l .resident q x e in
         answers (says (stateIn z s) (HI (t .entry .value))) (ap (onPeek (stateIn z s)) (t .place-is)) (becomes-same (h .keeps)) (ap spokenOf d ∙ ap (λ y. HI y ∷ []) old)
 
-    pub remove-gone : {s′ : List ℕ} → Freed z s s′ (kindOf q) x → {a : Spoken} → a ≡ alone (Gone b) → Answers z s s′ (RM k) a
+    pub remove-gone : {s′ : List ℕ} → Freed z s s′ (queueKind q) x → {a : Spoken} → a ≡ alone (Gone b) → Answers z s s′ (RM k) a
     unfolding apply onRemove
     remove-gone c d =
         let t = l .resident q x e in
-        answers (says (putAt (kindOf q) (t .before) [] (t .after) (stateIn z s)) (GO (t .entry .value))) (ap (onRemove (stateIn z s)) (t .place-is))
+        answers (says (putAt (queueKind q) (t .before) [] (t .after) (stateIn z s)) (GO (t .entry .value))) (ap (onRemove (stateIn z s)) (t .place-is))
         (c .of (t .before) (t .entry) (t .after) (t .seat))
         (ap spokenOf d ∙ ap (λ y. GO y ∷ []) old)
 
-    pub insert-over : {s′ : List ℕ} {m n u : ℕ} → Reads z s Mark x m → n ≡ min maxFreq (m + 1) → Replaced z s s′ x u n → {a : Spoken} → a ≡ alone (Replaced· b) → Answers z s s′ (IN k u) a
+    pub insert-over : {s′ : List ℕ} {m n u : ℕ} → GetsField z s Freq x m → n ≡ min maxFreq (m + 1) → Replaced z s s′ x u n → {a : Spoken} → a ≡ alone (Replaced· b) → Answers z s s′ (IN k u) a
     unfolding apply onInsert
     insert-over {s′} {u = u} f w c d =
         let t = l .resident q x e in
-        answers (says (putAt (kindOf q) (t .before) (revalue u (raise (t .entry)) ∷ []) (t .after) (stateIn z s)) (RE (t .entry .value))) (ap (onInsert k u (stateIn z s)) (t .place-is))
-        (subst (λ y. Becomes z s s′ (putAt (kindOf q) (t .before) (revalue u (withFreq y (t .entry)) ∷ []) (t .after) (stateIn z s))) (frequency f w)
-        (c .of (kindOf q) (t .before) (t .entry) (t .after) (t .seat)))
+        answers (says (putAt (queueKind q) (t .before) (revalue u (raise (t .entry)) ∷ []) (t .after) (stateIn z s)) (RE (t .entry .value))) (ap (onInsert k u (stateIn z s)) (t .place-is))
+        (subst (λ y. Becomes z s s′ (putAt (queueKind q) (t .before) (revalue u (withFreq y (t .entry)) ∷ []) (t .after) (stateIn z s))) (frequency f w)
+        (c .of (queueKind q) (t .before) (t .entry) (t .after) (t .seat)))
         (ap spokenOf d ∙ ap (λ y. RE y ∷ []) old)

@@ -7,7 +7,7 @@ ghost use lib.ListN.{length};
 ghost use Rattle.rules.specs.State.{maxFreq, queueOf};
 ghost use Rattle.rules.specs.Records.{Request};
 ghost use Rattle.store.specs.Holds.{stateIn, Keeps, Held};
-ghost use Rattle.store.specs.Seats.{kindOf};
+ghost use Rattle.store.specs.Seats.{queueKind};
 ghost use Rattle.store.specs.Looks.{Lacks};
 ghost use Rattle.wire.specs.Wire.{asked, told};
 ghost use Rattle.requests.specs.Answers.{alone, Answers, Comes, Arrives, Starts, firstOf, secondOf, Pops, Drained};
@@ -61,7 +61,7 @@ pub fn get(s: &mut [u8], z: Shape, k: GuestBlock) -> Spoken
     match spot {
         Spot::Resident(_, x) => {
             let v = nodes::value_of(s, z, x);
-            let n = raised(nodes::mark_of(s, z, x));
+            let n = raised(nodes::freq_of(s, z, x));
             store::set_freq(s, z, x, n);
             alone(Reply::Hit(PhysicalBlock(v)))
         }
@@ -103,7 +103,7 @@ pub fn remove(s: &mut [u8], z: Shape, k: GuestBlock) -> Spoken
 // A pair whose key stands nowhere goes in: eviction first where the cache is full.
 fn arrive(s: &mut [u8], z: Shape, q: QueueKind, k: GuestBlock, v: PhysicalBlock) -> Spoken
     requires { ⌜ Held z (now s) × Lacks z (now s) (k .0) ⌝ }
-    ensures { λ r. ⌜ Arrives z (now (s .entry)) (now (s .exit)) (kindOf q) (k .0) (v .0) r ⌝ }
+    ensures { λ r. ⌜ Arrives z (now (s .entry)) (now (s .exit)) (queueKind q) (k .0) (v .0) r ⌝ }
 {
     let evicted = evict::evict_if_full(s, z);
     store::admit(s, z, q, k.0, v.0);
@@ -124,7 +124,7 @@ pub fn insert(s: &mut [u8], z: Shape, k: GuestBlock, v: PhysicalBlock) -> Spoken
     match spot {
         Spot::Resident(_, x) => {
             let old = nodes::value_of(s, z, x);
-            let n = raised(nodes::mark_of(s, z, x));
+            let n = raised(nodes::freq_of(s, z, x));
             store::replace(s, z, x, v.0, n);
             alone(Reply::Replaced(PhysicalBlock(old)))
         }
@@ -138,11 +138,11 @@ pub fn insert(s: &mut [u8], z: Shape, k: GuestBlock, v: PhysicalBlock) -> Spoken
 
 // Pops the tail of a queue that is not empty: with a frequency above 0 it goes back, otherwise the pair is handed out and becomes no ghost.
 fn pop(s: &mut [u8], z: Shape, q: QueueKind) -> Popped
-    requires { ⌜ Held z (now s) × (1 ≤ length (queueOf (kindOf q) (stateIn z (now s)))) ⌝ }
-    ensures { λ r. ⌜ Pops z (now (s .entry)) (now (s .exit)) (kindOf q) r ⌝ }
+    requires { ⌜ Held z (now s) × (1 ≤ length (queueOf (queueKind q) (stateIn z (now s)))) ⌝ }
+    ensures { λ r. ⌜ Pops z (now (s .entry)) (now (s .exit)) (queueKind q) r ⌝ }
 {
     let x = store::tail_of(s, z, q);
-    let freq = nodes::mark_of(s, z, x);
+    let freq = nodes::freq_of(s, z, x);
     if 0 < freq {
         evict::go_back(s, z, q, x, freq);
         return Popped::Back;
@@ -168,7 +168,7 @@ fn second(s: &mut [u8], z: Shape) -> Reply
 // The queue of the first pop: Small unless it is empty.
 fn first_queue(s: &[u8], z: Shape) -> QueueKind
     requires { ⌜ Held z (now s) ⌝ }
-    ensures { λ r. ⌜ Starts z (now (s .entry)) (kindOf r) ⌝ }
+    ensures { λ r. ⌜ Starts z (now (s .entry)) (queueKind r) ⌝ }
 {
     if store::len_of(s, z, QueueKind::Small) == 0 {
         return QueueKind::Main;
@@ -206,7 +206,7 @@ pub fn evict_one(s: &mut [u8], z: Shape) -> Spoken
 // Takes all entries out of a queue.
 fn drain(s: &mut [u8], z: Shape, q: QueueKind)
     requires { ⌜ Keeps z (now s) ⌝ }
-    ensures { λ _. ⌜ Drained z (now (s .entry)) (now (s .exit)) (kindOf q) ⌝ }
+    ensures { λ _. ⌜ Drained z (now (s .entry)) (now (s .exit)) (queueKind q) ⌝ }
 {
     while 0 < store::len_of(s, z, q) {
         let x = store::tail_of(s, z, q);

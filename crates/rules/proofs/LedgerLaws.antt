@@ -10,12 +10,12 @@ use lib.Dec.{eqb}
 use borrow.Author.Tests.{eqb-true, eq-eqb}
 use Rattle.rules.specs.Parts.{bit, total, Pop, empty, popped, popTail}
 use Rattle.rules.specs.State.{Entry, Limits, State, Queue, Small, Main, words, keyIs, fresh, raise, revalue, cool, queueOf, setQueue, setGhosts, pushTo, emptyAt, overAll, residents, one, warmth, keyed, places, putAt, Place, nowhere, here, place, Fine, Sound}
-use Rattle.rules.specs.Records.{Request, GT, PK, RM, IN, EV, CL, Reply, MI, NW, EX, Sized, AllSized, Outcome, says, tellFirst}
+use Rattle.rules.specs.Records.{Request, GT, PK, RM, IN, EV, CL, Reply, MI, NW, EX, Narrow, AllNarrow, Outcome, says, tellFirst}
 use Rattle.rules.specs.Ghosts.{Removed, removeGhost}
 use Rattle.rules.specs.Eviction.{tell, wanted, back, Evicted, evictIfFull, untouched, Walk}
 use Rattle.rules.specs.Requests.{run, apply, onGet, onPeek, onRemove, onInsert, onNew, onFirst, onSecond, onEvictOne, admits, arrive, hands, firstQueue}
 use Rattle.rules.specs.Ledger.{same, held, handedIn, handedOut, keyOf, clears, Answered, history, Ledger, blank, booked, ledger, Balanced, served, histories}
-use Rattle.rules.proofs.PartsLaws.{total-append, Pops, pop-law}
+use Rattle.rules.proofs.PartsLaws.{total-append, TailView, pop-law}
 use Rattle.rules.proofs.StateLaws.{push-total, pop-total, put-total, back-total, Places, place-law}
 use Rattle.rules.proofs.EvictionLaws.{Evicts}
 use Rattle.rules.proofs.SoundLaws.{Roomy, roomy-law, walk-total, Unghosted, remove-law, apply-sound, run-sound, empty-sound}
@@ -79,7 +79,7 @@ module _ (k v : ℕ) where
         ap (λ z. same k v z b) (eqb-true a (e .key) (h .1)),
       )
 
-  second-ledger : (σ : State) (p : Pop Entry) → Pops (σ .main) p → held k v (onSecond σ p .state) + out EV (onSecond σ p .replies) ≡ held k v σ
+  second-ledger : (σ : State) (p : Pop Entry) → TailView (σ .main) p → held k v (onSecond σ p .state) + out EV (onSecond σ p .replies) ≡ held k v σ
   unfolding onSecond
   second-ledger σ empty h = omega arith
   second-ledger σ (popped r e) h = pick (wanted e)
@@ -90,7 +90,7 @@ module _ (k v : ℕ) where
       pick true = omega (arith, back-total pair Main r e σ h)
       pick false = omega (arith, pop-total pair Main r e σ h)
 
-  first-ledger : (q : Queue) (σ : State) (p : Pop Entry) → Pops (queueOf q σ) p → held k v (onFirst q σ p .state) + out EV (onFirst q σ p .replies) ≡ held k v σ
+  first-ledger : (q : Queue) (σ : State) (p : Pop Entry) → TailView (queueOf q σ) p → held k v (onFirst q σ p .state) + out EV (onFirst q σ p .replies) ≡ held k v σ
   unfolding onFirst
   first-ledger q σ empty h = omega arith
   first-ledger q σ (popped r e) h = pick (wanted e)
@@ -139,7 +139,7 @@ module _ (k v : ℕ) where
   book σ r l s b false e = record { untold = omega (arith, apply-ledger σ r s e, b .untold) }
 
   -- a run of requests keeps the ledger balanced, whatever stood in it before
-  pub run-ledger : (σ : State) (rs : List Request) (l : Ledger) → AllSized rs → Sound σ → Balanced k v l σ → Balanced k v (ledger k v (history σ rs) l) (run σ rs .state)
+  pub run-ledger : (σ : State) (rs : List Request) (l : Ledger) → AllNarrow rs → Sound σ → Balanced k v l σ → Balanced k v (ledger k v (history σ rs) l) (run σ rs .state)
   unfolding run history ledger
   run-ledger σ [] l z s b = b
   run-ledger σ (r ∷ rs) l z s b =
@@ -242,7 +242,7 @@ pub record Demand3 (σ : State) (h : List Answered) : Type 0 where
 
 abbrev pub EachSized : List (List Request) → Type 0
 EachSized [] = Unit {0}
-EachSized (rs ∷ calls) = AllSized rs × EachSized calls
+EachSized (rs ∷ calls) = AllNarrow rs × EachSized calls
 
 pub served-sound : (σ : State) (calls : List (List Request)) → EachSized calls → Sound σ → Sound (served σ calls)
 unfolding served
@@ -269,7 +269,7 @@ demand-3 L calls f z =
     }
 
 -- the same of one run of requests
-pub demand-3-run : (L : Limits) (rs : List Request) → Fine L → AllSized rs → Demand3 (run (emptyAt L) rs .state) (history (emptyAt L) rs)
+pub demand-3-run : (L : Limits) (rs : List Request) → Fine L → AllNarrow rs → Demand3 (run (emptyAt L) rs .state) (history (emptyAt L) rs)
 unfolding served histories
 demand-3-run L rs f z = rw (append-nil (history (emptyAt L) rs)) at (demand-3 L (rs ∷ []) f (z, tt))
 

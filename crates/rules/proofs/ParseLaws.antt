@@ -16,7 +16,7 @@ use Rattle.cells.proofs.Laws.{le-lt}
 use Rattle.rules.specs.declared.Kind.{Kind}
 use Rattle.rules.specs.declared.Kind.the-variants.{Get, Peek, Remove, Insert, Evict, Clear}
 use Rattle.rules.specs.declared.Row.{Row}
-use Rattle.rules.specs.Records.{Request, Sized, AllSized}
+use Rattle.rules.specs.Records.{Request, Narrow, AllNarrow}
 use Rattle.rules.specs.Bytes.{row, table, find, Spot, at, unknown, cut, over, within, spotAt, made, Reading, ask, strange, short, end, reading, readAt, End, whole, Parsed, ends, with, onReading, walk, parseFrom, parse}
 use Rattle.rules.proofs.TableLaws.{find-known, row-bytes}
 
@@ -85,7 +85,7 @@ module _ (s : List ℕ) where
 
 -- ---- bytes give numbers of 64 bits
 
-made-sized : (s : List ℕ) (i : ℕ) (k : Kind) → Bytes s → Sized (made s i k)
+made-sized : (s : List ℕ) (i : ℕ) (k : Kind) → Bytes s → Narrow (made s i k)
 made-sized s i Get h = le-lt 8 s (i + 2) h
 made-sized s i Peek h = le-lt 8 s (i + 2) h
 made-sized s i Remove h = le-lt 8 s (i + 2) h
@@ -94,7 +94,7 @@ made-sized s i Evict h = tt
 made-sized s i Clear h = tt
 
 abbrev sizes : Reading → Type 0
-sizes (ask q after) = Sized q
+sizes (ask q after) = Narrow q
 sizes strange = Unit {0}
 sizes short = Unit {0}
 sizes end = Unit {0}
@@ -109,18 +109,18 @@ read-sized : (s : List ℕ) (i : ℕ) → Bytes s → sizes (readAt s i)
 unfolding readAt
 read-sized s i h = reading-sized s i (spotAt s i) h
 
-turn-sized : (more : ℕ → Parsed) (i : ℕ) (r : Reading) → sizes r → ((after : ℕ) → AllSized (more after .requests)) → AllSized (onReading more i r .requests)
+turn-sized : (more : ℕ → Parsed) (i : ℕ) (r : Reading) → sizes r → ((after : ℕ) → AllNarrow (more after .requests)) → AllNarrow (onReading more i r .requests)
 turn-sized more i (ask q after) z ih = (z, ih after)
 turn-sized more i strange z ih = tt
 turn-sized more i short z ih = tt
 turn-sized more i end z ih = tt
 
-walk-sized : (s : List ℕ) (n i : ℕ) → Bytes s → AllSized (walk (readAt s) n i .requests)
+walk-sized : (s : List ℕ) (n i : ℕ) → Bytes s → AllNarrow (walk (readAt s) n i .requests)
 unfolding walk
 walk-sized s zero i h = tt
 walk-sized s (suc n) i h = turn-sized (walk (readAt s) n) i (readAt s i) (read-sized s i h) (λ after. walk-sized s n after h)
 
-pub parse-sized : (s : List ℕ) → Bytes s → AllSized (parse s .requests)
+pub parse-sized : (s : List ℕ) → Bytes s → AllNarrow (parse s .requests)
 unfolding parse parseFrom
 parse-sized s h = walk-sized s (length s) 0 h
 

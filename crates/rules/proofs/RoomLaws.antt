@@ -11,7 +11,7 @@ use lib.Dec.{eqb, ltb}
 use Rattle.rules.specs.declared.Kind.the-variants.{Get, Peek, Remove, Insert, Evict}
 use Rattle.rules.specs.Parts.{total, Pop, empty, popped, popTail}
 use Rattle.rules.specs.State.{Entry, State, Queue, Small, Main, queueOf, setGhosts, Place, nowhere, here, place, Sound}
-use Rattle.rules.specs.Records.{Request, GT, PK, RM, IN, EV, CL, Reply, MI, OK, HI, RE, NW, GO, EX, ES, EM, AllSized, Outcome, says}
+use Rattle.rules.specs.Records.{Request, GT, PK, RM, IN, EV, CL, Reply, MI, OK, HI, RE, NW, GO, EX, ES, EM, AllNarrow, Outcome, says}
 use Rattle.rules.specs.Ghosts.{Removed, removeGhost}
 use Rattle.rules.specs.Eviction.{tell, wanted, back, Evicted, evictIfFull}
 use Rattle.rules.specs.Requests.{run, apply, onGet, onPeek, onRemove, onInsert, onNew, onFirst, onSecond, onEvictOne, admits, arrive, hands, firstQueue}
@@ -125,7 +125,7 @@ apply-size σ (IN k v) s = insert-size k v σ (place k σ) s
 apply-size σ EV s = evict-one-size σ (evictIfFull σ) (roomy-law σ (s .fine))
 apply-size σ CL s = omega arith
 
-pub run-size : (σ : State) (rs : List Request) → AllSized rs → Sound σ → length (encodeAll (run σ rs .replies)) ≤ roomFor rs
+pub run-size : (σ : State) (rs : List Request) → AllNarrow rs → Sound σ → length (encodeAll (run σ rs .replies)) ≤ roomFor rs
 unfolding run roomFor encodeAll
 run-size σ [] z s = omega arith
 run-size σ (r ∷ rs) z s =

@@ -12,7 +12,7 @@ use Rattle.cells.specs.Cells.{le}
 use lib.Dec.{leb, ltb}
 use mathlib.Core.Option.{some}
 use Rattle.rules.specs.declared.Row.{Row}
-use Rattle.rules.specs.Records.{Request, GT, PK, RM, IN, EV, CL, Sized, AllSized}
+use Rattle.rules.specs.Records.{Request, GT, PK, RM, IN, EV, CL, Narrow, AllNarrow}
 use Rattle.rules.specs.Bytes.{bytesOf, row, kindOf, table, find, at, spotAt, made, ask, reading, readAt, whole, Parsed, with, onReading, parseFrom, parse, written, allWritten}
 use Rattle.rules.proofs.TableLaws.{row-kind}
 use Rattle.rules.proofs.ParseLaws.{parse-step, read-end, le-drop, spot-drop, made-drop}
@@ -62,7 +62,7 @@ spot-written (IN k v) rest =
 spot-written EV rest = spot-of 69 86 rest _ refl (omega arith)
 spot-written CL rest = spot-of 67 76 rest _ refl (omega arith)
 
-made-written : (q : Request) (rest : List ℕ) → Sized q → made (written q ++ rest) 0 (kindOf q) ≡ q
+made-written : (q : Request) (rest : List ℕ) → Narrow q → made (written q ++ rest) 0 (kindOf q) ≡ q
 made-written (GT k) rest h = ap GT (le-after (71 ∷ 84 ∷ []) 8 k rest h)
 made-written (PK k) rest h = ap PK (le-after (80 ∷ 75 ∷ []) 8 k rest h)
 made-written (RM k) rest h = ap RM (le-after (82 ∷ 77 ∷ []) 8 k rest h)
@@ -82,7 +82,7 @@ written-length (IN k v) = ap (λ n. suc (suc n)) (eight k (bytesOf 8 v) ∙ ap (
 written-length EV = refl
 written-length CL = refl
 
-read-at : (pre : List ℕ) (q : Request) (rest : List ℕ) → Sized q
+read-at : (pre : List ℕ) (q : Request) (rest : List ℕ) → Narrow q
     → readAt (pre ++ (written q ++ rest)) (length pre) ≡ ask q (length pre + length (written q))
 unfolding readAt
 read-at pre q rest h =
@@ -98,7 +98,7 @@ read-at pre q rest h =
 abbrev all : List Request → Parsed
 all qs = record { requests = qs; end = whole }
 
-trip-from : (pre : List ℕ) (qs : List Request) → AllSized qs → parseFrom (pre ++ allWritten qs) (length pre) ≡ all qs
+trip-from : (pre : List ℕ) (qs : List Request) → AllNarrow qs → parseFrom (pre ++ allWritten qs) (length pre) ≡ all qs
 unfolding allWritten
 trip-from pre [] h = rw (append-nil pre, parse-step pre (length pre), read-end pre (length pre) (omega arith))
 trip-from pre (q ∷ qs) h =
@@ -108,6 +108,6 @@ trip-from pre (q ∷ qs) h =
     ∙ ap (with q) (ap₂ parseFrom (sym (append-assoc pre (written q) (allWritten qs))) (sym (length-append pre (written q))) ∙ ih)
 
 -- the parser inverts the writing of requests
-pub parse-written : (qs : List Request) → AllSized qs → parse (allWritten qs) ≡ record { requests = qs; end = whole }
+pub parse-written : (qs : List Request) → AllNarrow qs → parse (allWritten qs) ≡ record { requests = qs; end = whole }
 unfolding parse
 parse-written qs h = trip-from [] qs h

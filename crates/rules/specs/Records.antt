@@ -15,17 +15,17 @@ pub data Reply : Type 0 where
   EX ES EM : ℕ → ℕ → Reply
 
 -- its numbers have 64 bits
-abbrev pub Sized : Request → Type 0
-Sized (GT k) = k < words
-Sized (PK k) = k < words
-Sized (RM k) = k < words
-Sized (IN k v) = (k < words) × (v < words)
-Sized EV = Unit {0}
-Sized CL = Unit {0}
+abbrev pub Narrow : Request → Type 0
+Narrow (GT k) = k < words
+Narrow (PK k) = k < words
+Narrow (RM k) = k < words
+Narrow (IN k v) = (k < words) × (v < words)
+Narrow EV = Unit {0}
+Narrow CL = Unit {0}
 
-abbrev pub AllSized : List Request → Type 0
-AllSized [] = Unit {0}
-AllSized (r ∷ rs) = Sized r × AllSized rs
+abbrev pub AllNarrow : List Request → Type 0
+AllNarrow [] = Unit {0}
+AllNarrow (r ∷ rs) = Narrow r × AllNarrow rs
 
 -- what a request, or a run of them, comes to
 pub record Outcome : Type 0 where

@@ -22,13 +22,13 @@ pub data Verdict : Type 0 where
   done : State → List ℕ → Verdict
 
 -- a row of the table of refusals: when, the number, the detail
-pub record Row : Type 0 where
+pub record RefusalRow : Type 0 where
   pub when : Bool
   pub number : ℕ
   pub detail : ℕ
 
 -- the first row that applies, and the verdict where none does
-abbrev pub unless : List Row → Verdict → Verdict
+abbrev pub unless : List RefusalRow → Verdict → Verdict
 unless [] v = v
 unless (r ∷ rs) v = cond (r .when) (refused (r .number) (r .detail)) (unless rs v)
 
@@ -39,7 +39,7 @@ abbrev pub storeBytes : ℕ
 storeBytes = 57600
 
 -- row 6
-abbrev pub createRows : ℕ → List Row
+abbrev pub createRows : ℕ → List RefusalRow
 createRows bytes = record { when = ltb bytes storeBytes; number = 6; detail = 0 } ∷ []
 
 abbrev pub onSized : ℕ → Sized → Verdict
@@ -70,7 +70,7 @@ brokenAt (unknownAt i) = i
 brokenAt (cutAt i) = i
 
 -- rows 8 to 10, for requests of so many bytes that parse so, and room for so many reply bytes
-abbrev pub runRows : ℕ → Parsed → ℕ → List Row
+abbrev pub runRows : ℕ → Parsed → ℕ → List RefusalRow
 runRows bytes p room =
     record { when = ltb mostRequestBytes bytes; number = 8; detail = 0 }
     ∷ record { when = broken (p .end); number = 9; detail = brokenAt (p .end) }

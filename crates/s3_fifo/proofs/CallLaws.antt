@@ -27,7 +27,7 @@ use Rattle.soundness.specs.Checks.{Checks}
 use Rattle.s3_fifo.specs.declared.Ran.{Ran}
 use Rattle.s3_fifo.specs.declared.Ran.the-variants.{Done, ShortStore, DamagedStore, LongRequests, BadRecord, NoRoom}
 use Rattle.s3_fifo.specs.Runs.{Ready, Runs}
-use Rattle.s3_fifo.specs.Calls.{gave, Settled, Leaves, Called}
+use Rattle.s3_fifo.specs.Calls.{gave, Settled, Follows, Called}
 
 -- ---- what the survey says of the verdict's rows
 

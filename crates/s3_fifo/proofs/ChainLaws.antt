@@ -11,11 +11,11 @@ use lib.Seq.{take-at}
 use borrow.Author.Tests.{ltb-false}
 use Rattle.cells.specs.Cells.{Bytes}
 use Rattle.rules.specs.State.{Limits, State, emptyAt, keyed, residents, Fine, Sound}
-use Rattle.rules.specs.Records.{Request, IN, Reply, AllSized, Outcome, tellFirst}
+use Rattle.rules.specs.Records.{Request, IN, Reply, AllNarrow, Outcome, tellFirst}
 use Rattle.rules.specs.Requests.{apply, run}
 use Rattle.rules.specs.Bytes.{encodeAll, parse}
 use Rattle.rules.specs.Sizing.{Sized, limits, refused as misfit, sizing}
-use Rattle.rules.specs.Verdict.{Verdict, refused as turnedBy, done, Row, unless, storeBytes, createRows, onSized, create, Reads, short, damaged, reads, runRows, finished, call}
+use Rattle.rules.specs.Verdict.{Verdict, refused as turnedBy, done, RefusalRow, unless, storeBytes, createRows, onSized, create, Reads, short, damaged, reads, runRows, finished, call}
 use Rattle.rules.specs.Ledger.{Answered, history}
 use Rattle.rules.proofs.SoundLaws.{run-sound, empty-sound}
 use Rattle.rules.proofs.ParseLaws.{parse-sized}
@@ -27,7 +27,7 @@ use Rattle.store.specs.Holds.{Holds}
 use Rattle.s3_fifo.specs.declared.Creation.the-variants.{Made}
 use Rattle.s3_fifo.specs.declared.Ran.{Ran}
 use Rattle.s3_fifo.specs.declared.Ran.the-variants.{Done}
-use Rattle.s3_fifo.specs.Calls.{Said, gave, turned, createdSays, ranSays, ReadsAs, Settled, Leaves, Created, Called}
+use Rattle.s3_fifo.specs.Calls.{Said, gave, turned, createdSays, ranSays, ReadsAs, Settled, Follows, Created, Called}
 use Rattle.s3_fifo.specs.Chains.{Chain, start, accepted, refused}
 use Rattle.s3_fifo.proofs.OnceLaws.{reads-once}
 
@@ -38,16 +38,16 @@ gave-not e = let z : _≡_ {A = ℕ} 0 1 = cc in omega arith
 
 -- an answer that is no refusal passed every row
 module _ (n : ℕ) (s s′ p p′ : List ℕ) where
-  row-passed : (t : Bool) (m d : ℕ) (v : Verdict) → Leaves (cond t (turnedBy m d) v) (gave n) s s′ p p′ → Leaves v (gave n) s s′ p p′
+  row-passed : (t : Bool) (m d : ℕ) (v : Verdict) → Follows (cond t (turnedBy m d) v) (gave n) s s′ p p′ → Follows v (gave n) s s′ p p′
   row-passed true m d v h = absurd (gave-not (h .0))
   row-passed false m d v h = h
 
-  rows-passed : (rows : List Row) (v : Verdict) → Leaves (unless rows v) (gave n) s s′ p p′ → Leaves v (gave n) s s′ p p′
+  rows-passed : (rows : List RefusalRow) (v : Verdict) → Follows (unless rows v) (gave n) s s′ p p′ → Follows v (gave n) s s′ p p′
   rows-passed [] v h = h
   rows-passed (r ∷ rows) v h = rows-passed rows v (row-passed (r .when) (r .number) (r .detail) (unless rows v) h)
 
 -- one that is leaves the store as it was
-refused-same : (v : Verdict) (n d : ℕ) (a : Said) (s s′ p p′ : List ℕ) → Leaves v a s s′ p p′ → a ≡ turned n d → s′ ≡ s
+refused-same : (v : Verdict) (n d : ℕ) (a : Said) (s s′ p p′ : List ℕ) → Follows v a s s′ p p′ → a ≡ turned n d → s′ ≡ s
 refused-same (turnedBy m e) n d a s s′ p p′ h r = h .1
 refused-same (done σ bs) n d a s s′ p p′ h r = absurd (gave-not (sym (h .0) ∙ r))
 
@@ -60,11 +60,11 @@ pub record Begun (s s′ : List ℕ) : Type 0 where
   pub holds : Holds s′ (emptyAt limits-are)
   pub long : storeBytes ≤ length s′
 
-begin : (a : Sized) {s s′ : List ℕ} → ((L : Limits) → a ≡ limits L → Fine L) → Leaves (onSized (length s) a) (gave 0) s s′ [] [] → Begun s s′
+begin : (a : Sized) {s s′ : List ℕ} → ((L : Limits) → a ≡ limits L → Fine L) → Follows (onSized (length s) a) (gave 0) s s′ [] [] → Begun s s′
 begin (misfit n) f h = absurd (gave-not (h .0))
 begin (limits L) {s} {s′} f h = pick (ltb (length s) storeBytes) refl h
   where
-    pick : (t : Bool) → ltb (length s) storeBytes ≡ t → Leaves (cond t (turnedBy 6 0) (done (emptyAt L) [])) (gave 0) s s′ [] [] → Begun s s′
+    pick : (t : Bool) → ltb (length s) storeBytes ≡ t → Follows (cond t (turnedBy 6 0) (done (emptyAt L) [])) (gave 0) s s′ [] [] → Begun s s′
     pick true e g = absurd (gave-not (g .0))
     pick false e g =
         record { limits-are = L; fine = f L refl; holds = g .1 .holds; long = omega (arith, ltb-false (length s) storeBytes e, g .1 .same-length) }
@@ -85,7 +85,7 @@ pub served : {s q p s′ p′ : List ℕ} {n : ℕ} {σ : State} → Holds s σ 
 unfolding call
 served {s} {q} {p} {s′} {p′} {n} {σ} h b c =
     let e : c .store ≡ reads σ = reads-once s (c .store) (reads σ) (c .store-is) (b, h) in
-    let f : Leaves (call (reads σ) q (length p)) (gave n) s s′ p p′ = subst (λ (x : Reads). Leaves (call x q (length p)) (gave n) s s′ p p′) e (c .leaves) in
+    let f : Follows (call (reads σ) q (length p)) (gave n) s s′ p p′ = subst (λ (x : Reads). Follows (call x q (length p)) (gave n) s s′ p p′) e (c .leaves) in
     let bs : List ℕ = encodeAll (run σ (parse q .requests) .replies) in
     let g = rows-passed n s s′ p p′ (runRows (length q) (parse q) (length p)) (finished (run σ (parse q .requests))) f in
     let count : n ≡ length bs = said (g .0) in
@@ -99,7 +99,7 @@ served {s} {q} {p} {s′} {p′} {n} {σ} h b c =
 pub created-intact : {settings : Settings} {s s′ : List ℕ} → Created settings s Made s′ → ReadsAs s′ damaged → ⊥
 created-intact c d = let b = begun c in d .1 (emptyAt (b .limits-are)) (b .holds)
 
-intact : (s q p s′ p′ : List ℕ) (n : ℕ) (x : Reads) → ReadsAs s x → Leaves (call x q (length p)) (gave n) s s′ p p′ → ReadsAs s′ damaged → ⊥
+intact : (s q p s′ p′ : List ℕ) (n : ℕ) (x : Reads) → ReadsAs s x → Follows (call x q (length p)) (gave n) s s′ p p′ → ReadsAs s′ damaged → ⊥
 unfolding call
 intact s q p s′ p′ n short h l d = absurd (gave-not (l .0))
 intact s q p s′ p′ n damaged h l d = absurd (gave-not (l .0))
@@ -114,12 +114,12 @@ called-intact {s} {q} {p} {s′} {p′} {n} c d = intact s q p s′ p′ n (c .s
 pub record Grown (s : List ℕ) (rs : List Request) (bs : List ℕ) : Type 0 where
   pub limits-are : Limits
   pub fine : Fine limits-are
-  pub sized : AllSized rs
+  pub sized : AllNarrow rs
   pub holds : Holds s (run (emptyAt limits-are) rs .state)
   pub told : bs ≡ encodeAll (run (emptyAt limits-are) rs .replies)
   pub long : storeBytes ≤ length s
 
-sized-append : (a b : List Request) → AllSized a → AllSized b → AllSized (a ++ b)
+sized-append : (a b : List Request) → AllNarrow a → AllNarrow b → AllNarrow (a ++ b)
 sized-append [] b h g = g
 sized-append (r ∷ a) b h g = (h .0, sized-append a b (h .1) g)
 
@@ -176,7 +176,7 @@ chain-keeps {s} {rs} {bs} c =
 
 -- ---- the full insert of demand 3, wherever in a chain it stands, also in the middle of a call
 
-sized-front : (a b : List Request) → AllSized (a ++ b) → AllSized a
+sized-front : (a b : List Request) → AllNarrow (a ++ b) → AllNarrow a
 sized-front [] b h = tt
 sized-front (r ∷ a) b h = (h .0, sized-front a b (h .1))
 
@@ -201,7 +201,7 @@ pub full-within : (a : List Request) (k v : ℕ) (b : List Request) {s bs : List
 full-within a k v b {s} {bs} {rs} c e =
     let g = grown c in
     let σ₀ : State = emptyAt (g .limits-are) in
-    let z : AllSized (a ++ IN k v ∷ b) = subst AllSized e (g .sized) in
+    let z : AllNarrow (a ++ IN k v ∷ b) = subst AllNarrow e (g .sized) in
     record {
       before = run σ₀ a .state;
       before-is = refl;

@@ -20,11 +20,11 @@ use Rattle.sizing.specs.declared.Sized.the-variants.{Accepted, Refused as Misfi
 use Rattle.sizing.specs.Answers.{limitsOf, numberOf, sizedOf, sizingOf}
 use Rattle.sizing.proofs.AcceptedLaws.{accepted-fine}
 use Rattle.store.specs.Holds.{shapeFor}
-use Rattle.store.specs.Created.{Created as CreatedIn}
+use Rattle.store.specs.Created.{SetUp as CreatedIn}
 use Rattle.store.proofs.CreatedLaws.{created-holds}
 use Rattle.s3_fifo.specs.declared.Creation.{Creation}
 use Rattle.s3_fifo.specs.declared.Creation.the-variants.{Made, Refused, ShortStore}
-use Rattle.s3_fifo.specs.Calls.{Said, Settled, Leaves, Created, createdSays}
+use Rattle.s3_fifo.specs.Calls.{Said, Settled, Follows, Created, createdSays}
 
 module _ (settings : Settings) {r : Sized} (e : sizedOf r ≡ sizingOf most settings) where
   sized-as : {q : Sized} → r ≡ q → sizing (settings .capacity) (settings .«small_ratio») (settings .«ghost_ratio») ≡ sizedOf q

@@ -20,7 +20,7 @@ use Rattle.s3_fifo.specs.declared.Creation.{Creation}
 use Rattle.s3_fifo.specs.declared.Creation.the-variants.{Made, Refused, ShortStore as Short·}
 use Rattle.s3_fifo.specs.declared.Ran.{Ran}
 use Rattle.s3_fifo.specs.declared.Ran.the-variants.{Done, ShortStore, DamagedStore, LongRequests, BadRecord, NoRoom}
-use Rattle.s3_fifo.specs.Calls.{Said, gave, turned, createdSays, ranSays, ReadsAs, Settled, Leaves, Created, Called}
+use Rattle.s3_fifo.specs.Calls.{Said, gave, turned, createdSays, ranSays, ReadsAs, Settled, Follows, Created, Called}
 
 -- ---- the answer is known by what it says
 
@@ -90,21 +90,21 @@ settled-agrees {s} {s₁} {s₂} {τ} a b =
     }
 
 -- what one verdict leaves is one thing
-leaves-once : (v : Verdict) (a b : Said) (s s₁ s₂ p p₁ p₂ : List ℕ) → Leaves v a s s₁ p p₁ → Leaves v b s s₂ p p₂ → (a ≡ b) × (p₁ ≡ p₂) × Agrees s₁ s₂
-leaves-once (refused n d) a b s s₁ s₂ p p₁ p₂ h g =
+follows-once : (v : Verdict) (a b : Said) (s s₁ s₂ p p₁ p₂ : List ℕ) → Follows v a s s₁ p p₁ → Follows v b s s₂ p p₂ → (a ≡ b) × (p₁ ≡ p₂) × Agrees s₁ s₂
+follows-once (refused n d) a b s s₁ s₂ p p₁ p₂ h g =
     (h .0 ∙ sym (g .0), h .2 ∙ sym (g .2), subst (λ (x : List ℕ). Agrees s₁ x) (h .1 ∙ sym (g .1)) (agrees-self s₁))
-leaves-once (done σ bs) a b s s₁ s₂ p p₁ p₂ h g = (h .0 ∙ sym (g .0), h .2 ∙ sym (g .2), settled-agrees (h .1) (g .1))
+follows-once (done σ bs) a b s s₁ s₂ p p₁ p₂ h g = (h .0 ∙ sym (g .0), h .2 ∙ sym (g .2), settled-agrees (h .1) (g .1))
 
 -- ---- the two calls
 
 pub created-once : {settings : Settings} {s s₁ s₂ : List ℕ} (r t : Creation) → Created settings s r s₁ → Created settings s t s₂ → (r ≡ t) × Agrees s₁ s₂
 created-once {settings} {s} {s₁} {s₂} r t c d =
-    let l = leaves-once (create (settings .capacity) (settings .«small_ratio») (settings .«ghost_ratio») (length s)) (createdSays r) (createdSays t) s s₁ s₂ [] [] [] (c .leaves) (d .leaves) in
+    let l = follows-once (create (settings .capacity) (settings .«small_ratio») (settings .«ghost_ratio») (length s)) (createdSays r) (createdSays t) s s₁ s₂ [] [] [] (c .leaves) (d .leaves) in
     (creation-once r t (l .0), l .2)
 
 pub called-once : {s q p s₁ s₂ p₁ p₂ : List ℕ} (r t : Ran) → Called s q p r s₁ p₁ → Called s q p t s₂ p₂ → (r ≡ t) × (p₁ ≡ p₂) × Agrees s₁ s₂
 called-once {s} {q} {p} {s₁} {s₂} {p₁} {p₂} r t c d =
     let e : c .store ≡ d .store = reads-once s (c .store) (d .store) (c .store-is) (d .store-is) in
-    let f : Leaves (call (d .store) q (length p)) (ranSays r) s s₁ p p₁ = subst (λ (x : Reads). Leaves (call x q (length p)) (ranSays r) s s₁ p p₁) e (c .leaves) in
-    let l = leaves-once (call (d .store) q (length p)) (ranSays r) (ranSays t) s s₁ s₂ p p₁ p₂ f (d .leaves) in
+    let f : Follows (call (d .store) q (length p)) (ranSays r) s s₁ p p₁ = subst (λ (x : Reads). Follows (call x q (length p)) (ranSays r) s s₁ p p₁) e (c .leaves) in
+    let l = follows-once (call (d .store) q (length p)) (ranSays r) (ranSays t) s s₁ s₂ p p₁ p₂ f (d .leaves) in
     (ran-once r t (l .0), l .1, l .2)

@@ -12,7 +12,7 @@ use Rattle.nodes.specs.Nodes.{Rest, cols}
 use Rattle.nodes.specs.declared.Shape.{Shape}
 use Rattle.rules.specs.Parts.{total}
 use Rattle.rules.specs.State.{State, Sound}
-use Rattle.rules.specs.Records.{Request, Reply, ES, EM, Sized, AllSized, Outcome}
+use Rattle.rules.specs.Records.{Request, Reply, ES, EM, Narrow, AllNarrow, Outcome}
 use Rattle.rules.specs.Requests.{apply, run}
 use Rattle.rules.specs.Bytes.{encode, encodeAll, roomOf, roomFor, Reading, ask, strange, short, end, readAt, End, whole, unknownAt, cutAt, Parsed, with, onReading, parseFrom, parse}
 use Rattle.rules.proofs.SoundLaws.{apply-sound}
@@ -91,7 +91,7 @@ from σ q i = run σ (parseFrom q i .requests)
 pub record Midway (z : Shape) (s₀ s q p₀ p : List ℕ) (at out : ℕ) : Type 0 where
   pub held : Held z s
   pub end-is : parseFrom q at .end ≡ whole
-  pub sized : AllSized (parseFrom q at .requests)
+  pub sized : AllNarrow (parseFrom q at .requests)
   pub ready : roomFor (parseFrom q at .requests) ≤ length p - out
   pub part : Partly p₀ p out (encodeAll (from (stateIn z s) q at .replies)) (encodeAll (from (stateIn z s₀) q 0 .replies))
   pub state : from (stateIn z s) q at .state ≡ from (stateIn z s₀) q 0 .state
@@ -124,7 +124,7 @@ module _ {z : Shape} {s₀ s q p₀ p : List ℕ} {at out : ℕ} (m : Midway z s
     more : parseFrom q at ≡ with (asked k) (parseFrom q after)
     more = parse-step q at ∙ ap (onReading (parseFrom q) at) (sym e)
 
-    r-sized : Sized (asked k)
+    r-sized : Narrow (asked k)
     r-sized = rw more at (m .sized) .0
 
     pub midway-less : length q - after < length q - at

@@ -46,16 +46,16 @@ pub record Settled (s s′ : List ℕ) (σ : State) : Type 0 where
   pub same-length : length s′ ≡ length s
 
 -- what a verdict leaves: a refusal changes no byte; otherwise the replies stand in front of what was there
-abbrev pub Leaves : Verdict → Said → List ℕ → List ℕ → List ℕ → List ℕ → Type 0
-Leaves (refused n d) a s s′ p p′ = (a ≡ turned n d) × (s′ ≡ s) × (p′ ≡ p)
-Leaves (done σ bs) a s s′ p p′ = (a ≡ gave (length bs)) × Settled s s′ σ × (p′ ≡ bs ++ drop (length bs) p)
+abbrev pub Follows : Verdict → Said → List ℕ → List ℕ → List ℕ → List ℕ → Type 0
+Follows (refused n d) a s s′ p p′ = (a ≡ turned n d) × (s′ ≡ s) × (p′ ≡ p)
+Follows (done σ bs) a s s′ p p′ = (a ≡ gave (length bs)) × Settled s s′ σ × (p′ ≡ bs ++ drop (length bs) p)
 
 -- creation: settings and the store before; the answer and the store after
 pub record Created (settings : Settings) (s : List ℕ) (r : Creation) (s′ : List ℕ) : Type 0 where
-  pub leaves : Leaves (create (settings .capacity) (settings .«small_ratio») (settings .«ghost_ratio») (length s)) (createdSays r) s s′ [] []
+  pub leaves : Follows (create (settings .capacity) (settings .«small_ratio») (settings .«ghost_ratio») (length s)) (createdSays r) s s′ [] []
 
 -- a call: store, requests and replies before; the answer, the store and the replies after
 pub record Called (s q p : List ℕ) (r : Ran·) (s′ p′ : List ℕ) : Type 0 where
   pub store : Reads
   pub store-is : ReadsAs s store
-  pub leaves : Leaves (call store q (length p)) (ranSays r) s s′ p p′
+  pub leaves : Follows (call store q (length p)) (ranSays r) s s′ p p′

@@ -13,14 +13,14 @@ use Rattle.sizing.proofs.ProductsLaws.{product-no-nan, product-finite, 
 use Rattle.sizing.proofs.CutLaws.{cut-beyond, cut-nearest, not-beyond}
 
 -- the first two tests are passed: the capacity is within the limit
-pub record Room (top c : ℕ) : Type 0 where
+pub record CapacityFits (top c : ℕ) : Type 0 where
   pub limit : top < 2 ^ 52
   pub some : c ≡ 0 → ⊥
   pub within : c ≤ top
 
 -- and the small ratio's: it is a ratio, at most 1
 pub record SmallFits (top c : ℕ) (s : Float) : Type 0 where
-  pub room : Room top c
+  pub room : CapacityFits top c
   pub ratio : badRatio s ≡ false
   pub most : lt unit s ≡ false
 
@@ -45,11 +45,11 @@ module _ (top c : ℕ) (s g : Float) where
   unfolding sizingUpTo
   is-2 n l = simp (ne-eqb c 0 n, lt-ltb top c l)
 
-  pub is-3 : Room top c → badRatio s ≡ true → refused 3 ≡ sizingUpTo top c s g
+  pub is-3 : CapacityFits top c → badRatio s ≡ true → refused 3 ≡ sizingUpTo top c s g
   unfolding sizingUpTo
   is-3 r b = simp (ne-eqb c 0 (r .some), le-ltb top c (r .within), b)
 
-  pub is-3-above : Room top c → badRatio s ≡ false → lt unit s ≡ true → refused 3 ≡ sizingUpTo top c s g
+  pub is-3-above : CapacityFits top c → badRatio s ≡ false → lt unit s ≡ true → refused 3 ≡ sizingUpTo top c s g
   unfolding sizingUpTo
   is-3-above r b l = simp (ne-eqb c 0 (r .some), le-ltb top c (r .within), b, l)
 

@@ -35,23 +35,23 @@ units zero t = t
 units (suc j) t = (2 ^ 52 + t) * 2 ^ j
 
 -- what sign, exponent's field and digits stand for
-pub data Read (s : Bool) (x t : ℕ) (v : Float) : Type 0 where
-  endless : x ≡ 2047 → v ≡ inf s → Read s x t v
-  no-number : x ≡ 2047 → v ≡ nan → Read s x t v
-  number : x < 2047 → HasValue v s (units x t) (2 ^ 1074) → Read s x t v
+pub data BitsRead (s : Bool) (x t : ℕ) (v : Float) : Type 0 where
+  endless : x ≡ 2047 → v ≡ inf s → BitsRead s x t v
+  no-number : x ≡ 2047 → v ≡ nan → BitsRead s x t v
+  number : x < 2047 → HasValue v s (units x t) (2 ^ 1074) → BitsRead s x t v
 
-read : (s : Bool) (x t : ℕ) → x < 2048 → Read s x t (ofFields binary64 s x t)
+read : (s : Bool) (x t : ℕ) → x < 2048 → BitsRead s x t (ofFields binary64 s x t)
 unfolding ofFields
 read s zero t h = number (lit< tt) (simp mul-one at (odd-sign 53 s t 0 1074))
 read s (suc j) t h = go (eqb (suc j) 2047) (eqb→eq (suc j) 2047) (λ e. eq→eqb e) (eqb t 0)
   where
     go : (b : Bool) → (T b → suc j ≡ 2047) → (suc j ≡ 2047 → T b) → (z : Bool)
-        → Read s (suc j) t (cond b (cond z (inf s) nan) (odd 53 s (2 ^ 52 + t) j 1074))
+        → BitsRead s (suc j) t (cond b (cond z (inf s) nan) (odd 53 s (2 ^ 52 + t) j 1074))
     go true p q true = endless (p tt) refl
     go true p q false = no-number (p tt) refl
     go false p q z = number (lt-of-le-ne (le-of-suc-le-suc h) q) (odd-sign 53 s (2 ^ 52 + t) j 1074)
 
-pub read-bits : (b : ℕ) → Read (negative b) (field b) (digits b) (ofBits binary64 b)
+pub read-bits : (b : ℕ) → BitsRead (negative b) (field b) (digits b) (ofBits binary64 b)
 unfolding ofBits
 read-bits b = read (negative b) (field b) (digits b) (omega arith)
 
@@ -122,7 +122,7 @@ module _ (v : Float) (F : T (fits binary64 v)) (N : T (not (isNan v))) where
   abbrev size : ℕ
   size = units (field bits) (digits bits)
 
-  read-of : Read (negative bits) (field bits) (digits bits) v
+  read-of : BitsRead (negative bits) (field bits) (digits bits) v
   read-of = rw (ofBits-toBits binary64 v F) at (read-bits bits)
 
   pub cut-low : field bits < 1022 → 0 ≡ cut v

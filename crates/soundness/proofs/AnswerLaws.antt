@@ -6,7 +6,7 @@ use Prim.Native.Nat.{ℕ}
 use Rattle.nodes.specs.declared.Shape.{Shape}
 use Rattle.rules.specs.State.{Limits, State, emptyAt}
 use Rattle.store.specs.Holds.{stateIn, Held, Holds}
-use Rattle.store.specs.Created.{Created}
+use Rattle.store.specs.Created.{SetUp}
 use Rattle.store.proofs.HoldsLaws.{held-holds, held-shape}
 use Rattle.store.proofs.CreatedLaws.{created-holds}
 use Rattle.soundness.specs.declared.Checked.{Checked}
@@ -22,7 +22,7 @@ pub held-passes : {z : Shape} {s : List ℕ} {r : Checked} → Held z s → Chec
 held-passes {z} {s} k h e = h .damaged e (stateIn z s) (held-holds k)
 
 -- nor is a fresh one
-pub created-passes : {L : Limits} {s s′ : List ℕ} {r : Checked} → Created L s s′ → Checks s′ r → r ≡ Damaged → ⊥
+pub created-passes : {L : Limits} {s s′ : List ℕ} {r : Checked} → SetUp L s s′ → Checks s′ r → r ≡ Damaged → ⊥
 created-passes {L} k h e = h .damaged e (emptyAt L) (created-holds k)
 
 -- no two answers are right

@@ -12,7 +12,7 @@ use borrow.Author.Tests.{not-true, not-false, le-leb, lt-leb}
 use Rattle.cells.specs.Cells.{Bytes}
 use Rattle.cells.specs.Decides.{Decides, All}
 use Rattle.cells.proofs.DecidesLaws.{accept, refuse, decides-map}
-use Rattle.nodes.specs.Nodes.{Queue as Tag, Mark, cols, Room, Reads}
+use Rattle.nodes.specs.Nodes.{Queue as Tag, Freq, cols, Room, GetsField}
 use Rattle.nodes.specs.declared.Shape.{Shape}
 use Rattle.pool.specs.Carries.{Pooled}
 use Rattle.rules.specs.State.{Limits, State, Queue, Small, Main, most, maxFreq, residents, Fine, Sound}
@@ -79,11 +79,11 @@ module _ {σ : State} {a m : ℕ} (ra : a ≡ σ .limits .capacity) (rm : m ≡ 
 
 -- ---- how warm a node is
 
-module _ {z : Shape} {s : List ℕ} {x m : ℕ} (rm : Reads z s Mark x m) where
-  pub mark-cool : m ≤ maxFreq → Decides (Cool z s x) true
-  mark-cool h = accept (record { cool = λ q e. omega (arith, rm .value) })
+module _ {z : Shape} {s : List ℕ} {x m : ℕ} (rm : GetsField z s Freq x m) where
+  pub freq-cool : m ≤ maxFreq → Decides (Cool z s x) true
+  freq-cool h = accept (record { cool = λ q e. omega (arith, rm .value) })
 
-  module _ (h : maxFreq < m) {t : ℕ} (rt : Reads z s Tag x t) where
+  module _ (h : maxFreq < m) {t : ℕ} (rt : GetsField z s Tag x t) where
     pub small-warm : t ≡ 1 → Decides (Cool z s x) false
     small-warm e = refuse (λ k. omega (arith, k .cool Small (sym (rt .value) ∙ e), rm .value))
 

@@ -1,4 +1,4 @@
--- What makes a pool's state sound: its index lets no key stand twice, its bytes are no wider than 64 bits, and its marks say whether it is cool enough.
+-- What makes a pool's state sound: its index lets no key stand twice, its bytes are no wider than 64 bits, and its freqs say whether it is cool enough.
 -- Assumes nothing.
 use mathlib.Core.Path.{_≡_, refl, sym, ap, _∙_, subst}
 use mathlib.Core.Logic.{_≢_}
@@ -11,13 +11,13 @@ use lib.ListN.{getD}
 use borrow.Author.Tests.{eq-eqb, ne-eqb, eqb-true, ltb-false, le-ltb, lt-leb}
 use Rattle.cells.specs.Cells.{Bytes}
 use Rattle.cells.specs.Decides.{All}
-use Rattle.nodes.specs.Nodes.{Key, Value, Queue as Tag, Mark, Cols, cols}
+use Rattle.nodes.specs.Nodes.{Key, Value, Queue as Tag, Freq, Cols, cols}
 use Rattle.nodes.specs.declared.Shape.{Shape}
 use Rattle.nodes.proofs.NodesLaws.{cols-lt}
 use Rattle.lists.specs.Ring.{Every, Out, Among}
 use Rattle.lists.proofs.EveryLaws.{every-append, every-less}
 use Rattle.lists.proofs.ListsLaws.{lists-once, lists-place}
-use Rattle.pool.specs.Carries.{listsOf, Pooled, Kind}
+use Rattle.pool.specs.Carries.{listsOf, Pooled, LiveList}
 use Rattle.pool.proofs.CarriesLaws.{every-among, among-tag, among-once}
 use Rattle.pool.proofs.PoolLaws.{pooled-node}
 use Rattle.rules.specs.Parts.{bit, total, Split, missing, found, splitBy}
@@ -42,11 +42,11 @@ module _ (z : Shape) (s : List ℕ) (p : Pooled z s) (k : ℕ) where
   has y = bit (eqb k (key y))
 
   -- a node that has it is the only one
-  module _ {t : ℕ} (kt : Kind t) (a : List ℕ) (x : ℕ) (b : List ℕ) (e : f t ≡ a ++ (x ∷ b)) (h : eqb k (key x) ≡ true) where
+  module _ {t : ℕ} (kt : LiveList t) (a : List ℕ) (x : ℕ) (b : List ℕ) (e : f t ≡ a ++ (x ∷ b)) (h : eqb k (key x) ≡ true) where
     here : Among x (f t)
     here = record { front = a; back = b; is = e }
 
-    others : (u y : ℕ) → Kind u → Among y (f u) → y ≢ x → has y ≡ 0
+    others : (u y : ℕ) → LiveList u → Among y (f u) → y ≢ x → has y ≡ 0
     others u y ku m n = ap bit (ne-eqb k (key y) (λ i. n (among-once (p .carries) ku m kt here (sym i ∙ eqb-true k (key x) h))))
 
     there : total has (f t) ≡ 1
@@ -62,7 +62,7 @@ module _ (z : Shape) (s : List ℕ) (p : Pooled z s) (k : ℕ) where
           total-but has x (a ++ b) (every-less (λ y. y ≢ x → has y ≡ 0) a x b n) (every-append (λ y. y ≢ x) a b (o .0) (o .1)),
         )
 
-    elsewhere : (u : ℕ) → Kind u → u ≢ t → total has (f u) ≡ 0
+    elsewhere : (u : ℕ) → LiveList u → u ≢ t → total has (f u) ≡ 0
     elsewhere u ku n =
         total-none has (f u) (λ y m. others u y ku m (λ i. n (sym (among-tag (p .carries) ku m) ∙ ap (λ w. getD (cols z s Tag) w 0) i ∙ among-tag (p .carries) kt here)))
 
@@ -114,15 +114,15 @@ module _ (z : Shape) (s : List ℕ) (b : Bytes s) where
         total-map wide (keyAt (cols z s)) (listsOf z (cols z s) 3) ∙ total-none (λ y. wide (getD (cols z s Key) y 0)) (listsOf z (cols z s) 3) (λ y m. narrow-key y),
       )
 
--- ---- marks and frequencies
+-- ---- freqs and frequencies
 
 module _ (z : Shape) (s : List ℕ) (p : Pooled z s) where
-  abbrev mark : ℕ → ℕ
-  mark y = getD (cols z s Mark) y 0
+  abbrev freqAt : ℕ → ℕ
+  freqAt y = getD (cols z s Freq) y 0
 
   -- how many nodes of a queue are too warm
   abbrev warm : Queue → ℕ
-  warm q = total (λ y. bit (ltb maxFreq (mark y))) (listsOf z (cols z s) (listNo q))
+  warm q = total (λ y. bit (ltb maxFreq (freqAt y))) (listsOf z (cols z s) (listNo q))
 
   warm-shown : tooWarm (stateIn z s) ≡ warm Small + warm Main
   unfolding stateIn
@@ -135,8 +135,8 @@ module _ (z : Shape) (s : List ℕ) (p : Pooled z s) where
 
   cool-queue : All (Cool z s) (z .room) → (q : Queue) → warm q ≡ 0
   cool-queue h q =
-      total-none (λ y. bit (ltb maxFreq (mark y))) (listsOf z (cols z s) (listNo q))
-      (λ y m. ap bit (le-ltb maxFreq (mark y) (h .all y (pooled-node p (kind q) m) .cool q (among-tag (p .carries) (kind q) m))))
+      total-none (λ y. bit (ltb maxFreq (freqAt y))) (listsOf z (cols z s) (listNo q))
+      (λ y m. ap bit (le-ltb maxFreq (freqAt y) (h .all y (pooled-node p (kind q) m) .cool q (among-tag (p .carries) (kind q) m))))
 
   pub nodes-cool : All (Cool z s) (z .room) → tooWarm (stateIn z s) ≡ 0
   nodes-cool h = omega (arith, warm-shown, cool-queue h Small, cool-queue h Main)
@@ -155,7 +155,7 @@ module _ (z : Shape) (s : List ℕ) (p : Pooled z s) where
         all = λ y b.
             record {
               cool = λ q e.
-                  cool-by (mark y) (ltb maxFreq (mark y)) refl
-                  (omega (arith, queue-cool h q, total-some (λ x. bit (ltb maxFreq (mark x))) (lists-place (p .carries .lists) (p .carries .whole) y b e)));
+                  cool-by (freqAt y) (ltb maxFreq (freqAt y)) refl
+                  (omega (arith, queue-cool h q, total-some (λ x. bit (ltb maxFreq (freqAt x))) (lists-place (p .carries .lists) (p .carries .whole) y b e)));
             };
       }

@@ -4,7 +4,7 @@ use mathlib.Core.Path.{_≡_}
 use mathlib.Core.List.{List}
 use Prim.Native.Nat.{ℕ, _≤_}
 use lib.ListN.{length, getD}
-use Rattle.nodes.specs.Nodes.{Queue as Tag, Mark, cols}
+use Rattle.nodes.specs.Nodes.{Queue as Tag, Freq, cols}
 use Rattle.nodes.specs.declared.Shape.{Shape}
 use Rattle.rules.specs.State.{State, Queue, maxFreq, residents, Fine}
 use Rattle.store.specs.Holds.{listNo, limitsIn, shapeFor, Held, Holds}
@@ -25,7 +25,7 @@ pub record Few (σ : State) : Type 0 where
 
 -- the node x, if it is a resident's, is no warmer than the highest frequency
 pub record Cool (z : Shape) (s : List ℕ) (x : ℕ) : Type 0 where
-  pub cool : (q : Queue) → getD (cols z s Tag) x 0 ≡ listNo q → getD (cols z s Mark) x 0 ≤ maxFreq
+  pub cool : (q : Queue) → getD (cols z s Tag) x 0 ≡ listNo q → getD (cols z s Freq) x 0 ≤ maxFreq
 
 -- ---- the whole
 

@@ -53,12 +53,12 @@ fn few_enough(s: &[u8], z: Shape) -> bool
     store::ghosts_len(s, z) <= ghost_limit
 }
 
-// Whether node x, if it is a resident's, has a frequency of 3 at most. The marks of ghosts and of free nodes are of no account.
+// Whether node x, if it is a resident's, has a frequency of 3 at most. The frequencies of ghosts and of free nodes are of no account.
 fn is_cool(s: &[u8], z: Shape, x: usize) -> bool
     requires { ⌜ Room z (now s) × (x < z .room) ⌝ }
     ensures { λ r. ⌜ Decides (Cool z (now (s .entry)) x) r ⌝ }
 {
-    if nodes::mark_of(s, z, x) <= rules::MAX_FREQ as usize {
+    if nodes::freq_of(s, z, x) <= rules::MAX_FREQ as usize {
         return true;
     }
     let list = nodes::queue_of(s, z, x);

@@ -9,12 +9,12 @@ use lib.Seq.{getD-set-same, getD-set-other}
 use Rattle.nodes.specs.Nodes.{Head, Rest, cols, over, Room}
 use Rattle.nodes.specs.declared.Shape.{Shape}
 use Rattle.nodes.proofs.NodesLaws.{length-cols, room-kept}
-use Rattle.pool.specs.Carries.{Laid}
+use Rattle.pool.specs.Carries.{PoolSetUp}
 use Rattle.rules.specs.State.{Limits, Small, Main, emptyAt, Fine, Sound}
 use Rattle.rules.specs.Verdict.{storeBytes}
 use Rattle.rules.proofs.SoundLaws.{empty-sound}
 use Rattle.store.specs.Holds.{entryAt, keyAt, limitsIn, stateIn, shapeFor, Holds}
-use Rattle.store.specs.Created.{limited, Limited, Created}
+use Rattle.store.specs.Created.{limited, Limited, SetUp}
 use Rattle.store.proofs.ShownLaws.{limits-aside}
 use Rattle.store.proofs.KeepsLaws.{kind, ghost-kind}
 use Rattle.store.proofs.HoldsLaws.{shape-room, room-for}
@@ -46,7 +46,7 @@ module _ {z : Shape} {s s′ : List ℕ} {L : Limits} (w : Limited z s s′ L) w
 
 -- ---- and the pool laid behind it
 
-laid-state : {z : Shape} {s s′ : List ℕ} → Laid z s s′ → stateIn z s′ ≡ emptyAt (limitsIn (cols z s))
+laid-state : {z : Shape} {s s′ : List ℕ} → PoolSetUp z s s′ → stateIn z s′ ≡ emptyAt (limitsIn (cols z s))
 unfolding stateIn
 laid-state {z} {s} {s′} l = λ i.
     record {
@@ -56,7 +56,7 @@ laid-state {z} {s} {s′} l = λ i.
       ghosts = map (keyAt (cols z s′)) (l .none 3 ghost-kind i);
     }
 
-made : {L : Limits} {s s₁ s₂ : List ℕ} → Fine L → storeBytes ≤ length s₂ → Limited (shapeFor L) s s₁ L → Laid (shapeFor L) s₁ s₂ → Created L s s₂
+made : {L : Limits} {s s₁ s₂ : List ℕ} → Fine L → storeBytes ≤ length s₂ → Limited (shapeFor L) s s₁ L → PoolSetUp (shapeFor L) s₁ s₂ → SetUp L s s₂
 made {L} {s} {s₁} {s₂} f b w l =
     let e : stateIn (shapeFor L) s₂ ≡ emptyAt L = laid-state l ∙ ap emptyAt (limited-limits w) in
     record {
@@ -69,10 +69,10 @@ made {L} {s} {s₁} {s₂} f b w l =
     }
 
 pub created : {L : Limits} {z : Shape} {s s₁ s₂ : List ℕ} → Fine L → storeBytes ≤ length s → z ≡ shapeFor L → length s₁ ≡ length s → length s₂ ≡ length s₁
-    → Limited z s s₁ L → Laid z s₁ s₂ → Created L s s₂
+    → Limited z s s₁ L → PoolSetUp z s₁ s₂ → SetUp L s s₂
 created {L} {z} {s} {s₁} {s₂} f b e n₁ n₂ w l =
-    made f (omega arith) (subst (λ (y : Shape). Limited y s s₁ L) e w) (subst (λ (y : Shape). Laid y s₁ s₂) e l)
+    made f (omega arith) (subst (λ (y : Shape). Limited y s s₁ L) e w) (subst (λ (y : Shape). PoolSetUp y s₁ s₂) e l)
 
 -- so it is not damaged
-pub created-holds : {L : Limits} {s s′ : List ℕ} → Created L s s′ → Holds s′ (emptyAt L)
+pub created-holds : {L : Limits} {s s′ : List ℕ} → SetUp L s s′ → Holds s′ (emptyAt L)
 created-holds h = record { held = h .held; state = h .state }

@@ -5,7 +5,7 @@ use mathlib.Core.List.{List}
 use Prim.Native.Nat.{ℕ, _≤_}
 use native.Mathlib.Omega.{arith}
 use lib.ListN.{length}
-use Rattle.nodes.specs.Nodes.{Head, cols, Room, Reads}
+use Rattle.nodes.specs.Nodes.{Head, cols, Room, GetsField}
 use Rattle.nodes.specs.declared.Shape.{Shape}
 use Rattle.rules.specs.State.{Limits, State, Fine}
 use Rattle.rules.specs.Verdict.{storeBytes}
@@ -24,7 +24,7 @@ pub same-limits : (z w : Shape) (s : List ℕ) → limitsIn (cols z s) ≡ limit
 same-limits z w s = ap limitsBy (same-header z w s)
 
 -- what was read of it at one shape stands there at every shape
-pub stated : {z : Shape} {s : List ℕ} {L : Limits} → Reads z s Head 0 (L .capacity) → Reads z s Head 1 (L .smallLimit) → Reads z s Head 2 (L .ghostLimit) → Stated s L
+pub stated : {z : Shape} {s : List ℕ} {L : Limits} → GetsField z s Head 0 (L .capacity) → GetsField z s Head 1 (L .smallLimit) → GetsField z s Head 2 (L .ghostLimit) → Stated s L
 stated {z} {s} a b c =
     record { limits = λ w. (λ i. record { capacity = a .value i; smallLimit = b .value i; ghostLimit = c .value i }) ∙ same-limits z w s }
 

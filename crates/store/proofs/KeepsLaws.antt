@@ -5,15 +5,15 @@ use mathlib.Core.List.{List, [], _∷_, _++_, map, head-eq-of-cons-eq, tail-eq-o
 use Prim.Native.Nat.{ℕ, _+_, _≤_, _<_}
 use native.Mathlib.Omega.{arith}
 use lib.ListN.{length, getD}
-use Rattle.nodes.specs.Nodes.{Field, Head, Key, Value, Prev, Mark, Rest, Cols, cols, Room, Wrote, Reads}
+use Rattle.nodes.specs.Nodes.{Field, Head, Key, Value, Prev, Freq, Rest, Cols, cols, Room, SetsField, GetsField}
 use Rattle.nodes.specs.declared.Shape.{Shape}
 use Rattle.nodes.proofs.NodesLaws.{room-kept}
 use Rattle.nodes.proofs.OverLaws.{over-at}
 use Rattle.lists.specs.Ring.{Among, Last}
 use Rattle.lists.proofs.ListsLaws.{lists-tail, lists-once}
-use Rattle.pool.specs.Carries.{Carries, listsOf, Pooled, Aside, Alike, Kind, CanMove, Moved, CanRelease, Released, CanFill, Filled}
+use Rattle.pool.specs.Carries.{Carries, listsOf, Pooled, Aside, Alike, LiveList, CanMove, Moved, CanRelease, Released, CanFill, Filled}
 use Rattle.pool.proofs.CarriesLaws.{carries-view}
-use Rattle.pool.proofs.PoolLaws.{mark-pooled, value-pooled, value-lists, value-aside, pooled-length, pooled-node, can-fill}
+use Rattle.pool.proofs.PoolLaws.{freq-pooled, value-pooled, value-lists, value-aside, pooled-length, pooled-node, can-fill}
 use Rattle.rules.specs.Parts.{total}
 use Rattle.rules.specs.State.{Entry, Limits, State, Queue, Small, Main, fresh, withFreq, revalue, queueOf, setQueue, setGhosts, pushTo, putAt, residents, one, places}
 use Rattle.rules.proofs.PartsLaws.{length-total}
@@ -27,11 +27,11 @@ use Rattle.store.proofs.LookLaws.{places-miss}
 
 -- ---- lists of residents and of ghosts
 
-pub kind : (q : Queue) → Kind (listNo q)
+pub kind : (q : Queue) → LiveList (listNo q)
 kind Small = record { above = omega arith; below = omega arith }
 kind Main = record { above = omega arith; below = omega arith }
 
-pub ghost-kind : Kind ghostsNo
+pub ghost-kind : LiveList ghostsNo
 ghost-kind = record { above = omega arith; below = omega arith }
 
 -- ---- limits and lengths
@@ -43,28 +43,28 @@ ghosts-length : (z : Shape) (s : List ℕ) → length (stateIn z s .ghosts) ≡ 
 ghosts-length z s = ap length (ghosts-shown z s) ∙ map-length (keyAt (cols z s)) (listsOf z (cols z s) ghostsNo)
 
 module _ {z : Shape} {s : List ℕ} where
-  pub capacity-is : {r : ℕ} → Reads z s Head 0 r → r ≡ stateIn z s .limits .capacity
+  pub capacity-is : {r : ℕ} → GetsField z s Head 0 r → r ≡ stateIn z s .limits .capacity
   unfolding stateIn
   capacity-is g = g .value
 
-  pub small-limit-is : {r : ℕ} → Reads z s Head 1 r → r ≡ stateIn z s .limits .smallLimit
+  pub small-limit-is : {r : ℕ} → GetsField z s Head 1 r → r ≡ stateIn z s .limits .smallLimit
   unfolding stateIn
   small-limit-is g = g .value
 
-  pub ghost-limit-is : {r : ℕ} → Reads z s Head 2 r → r ≡ stateIn z s .limits .ghostLimit
+  pub ghost-limit-is : {r : ℕ} → GetsField z s Head 2 r → r ≡ stateIn z s .limits .ghostLimit
   unfolding stateIn
   ghost-limit-is g = g .value
 
-  pub length-is : Keeps z s → (q : Queue) {t n : ℕ} → t ≡ listNo q → Reads z s Head (4 + t) n → n ≡ length (queueOf q (stateIn z s))
+  pub length-is : Keeps z s → (q : Queue) {t n : ℕ} → t ≡ listNo q → GetsField z s Head (4 + t) n → n ≡ length (queueOf q (stateIn z s))
   length-is k q e g = pooled-length (k .pooled) (kind q) (rw e at g) ∙ sym (queue-length z s q)
 
-  pub ghosts-are : Keeps z s → {n : ℕ} → Reads z s Head (4 + ghostsNo) n → n ≡ length (stateIn z s .ghosts)
+  pub ghosts-are : Keeps z s → {n : ℕ} → GetsField z s Head (4 + ghostsNo) n → n ≡ length (stateIn z s .ghosts)
   ghosts-are k g = pooled-length (k .pooled) ghost-kind g ∙ sym (ghosts-length z s)
 
 -- ---- seats
 
 module _ {z : Shape} {s : List ℕ} (k : Keeps z s) where
-  pub tail-is : {q : Queue} {t x : ℕ} → t ≡ listNo q → Reads z s Prev (z .room + t) x → 1 ≤ length (queueOf q (stateIn z s)) → Tail z s q x
+  pub tail-is : {q : Queue} {t x : ℕ} → t ≡ listNo q → GetsField z s Prev (z .room + t) x → 1 ≤ length (queueOf q (stateIn z s)) → Tail z s q x
   tail-is {q} {t} {x} e g h =
       let r = k .pooled .carries .lists in
       let b = kind q .below in
@@ -76,7 +76,7 @@ module _ {z : Shape} {s : List ℕ} (k : Keeps z s) where
         seat = record { front = m .front; back = []; is = m .is; before = refl; here = refl; after = refl };
       }
 
-  pub oldest-is : {x : ℕ} → Reads z s Prev (z .room + ghostsNo) x → 1 ≤ length (stateIn z s .ghosts) → Oldest z s x
+  pub oldest-is : {x : ℕ} → GetsField z s Prev (z .room + ghostsNo) x → 1 ≤ length (stateIn z s .ghosts) → Oldest z s x
   oldest-is {x} g h =
       let r = k .pooled .carries .lists in
       let b = ghost-kind .below in
@@ -135,13 +135,13 @@ module _ {z : Shape} {s : List ℕ} (k : Keeps z s) where
 -- ---- what is read at a seat
 
 module _ {z : Shape} {s : List ℕ} {q : Queue} {x r : ℕ} {b : List Entry} {e : Entry} {a : List Entry} (h : Seat z s q x b e a) where
-  pub seat-key : Reads z s Key x r → r ≡ e .key
+  pub seat-key : GetsField z s Key x r → r ≡ e .key
   seat-key g = g .value ∙ ap (λ (y : Entry). y .key) (h .here)
 
-  pub seat-value : Reads z s Value x r → r ≡ e .value
+  pub seat-value : GetsField z s Value x r → r ≡ e .value
   seat-value g = g .value ∙ ap (λ (y : Entry). y .value) (h .here)
 
-  pub seat-freq : Reads z s Mark x r → r ≡ e .freq
+  pub seat-freq : GetsField z s Freq x r → r ≡ e .freq
   seat-freq g = g .value ∙ ap (λ (y : Entry). y .freq) (h .here)
 
 pub seat-queue : (z : Shape) (s : List ℕ) {q : Queue} {x : ℕ} {b : List Entry} {e : Entry} {a : List Entry} → Seat z s q x b e a → queueOf q (stateIn z s) ≡ b ++ (e ∷ a)
@@ -149,7 +149,7 @@ seat-queue z s {q} {x} {b} {e} {a} h =
     queue-shown z s q ∙ ap (map (entryAt (cols z s))) (h .is) ∙ map-append (entryAt (cols z s)) (h .front) (x ∷ h .back)
     ∙ (λ i. h .before i ++ (h .here i ∷ h .after i))
 
-pub grave-key : {z : Shape} {s : List ℕ} {x r : ℕ} {b : List ℕ} {g : ℕ} {a : List ℕ} → Grave z s x b g a → Reads z s Key x r → r ≡ g
+pub grave-key : {z : Shape} {s : List ℕ} {x r : ℕ} {b : List ℕ} {g : ℕ} {a : List ℕ} → Grave z s x b g a → GetsField z s Key x r → r ≡ g
 grave-key h g = g .value ∙ h .here
 
 pub grave-ghosts : (z : Shape) (s : List ℕ) {x : ℕ} {b : List ℕ} {g : ℕ} {a : List ℕ} → Grave z s x b g a → stateIn z s .ghosts ≡ b ++ (g ∷ a)
@@ -212,14 +212,14 @@ module _ {z : Shape} {s s′ : List ℕ} (k : Keeps z s) (n : length s′ ≡ le
   pub haunted : {g v x : ℕ} → Filled z s s′ ghostsNo g v x → Becomes z s s′ (setGhosts (g ∷ stateIn z s .ghosts) (stateIn z s))
   haunted {g} {v} {x} m = becomes (m .pooled) (m .aside) (filled-ghost z s s′ g v x (k .pooled) m)
 
-  mark-aside : {x v : ℕ} → Wrote z s s′ Mark x v → Aside (cols z s) (cols z s′)
-  mark-aside w = record { limits = λ i h. rw (w .columns, over-at); rest = rw (w .columns, over-at) }
+  freq-aside : {x v : ℕ} → SetsField z s s′ Freq x v → Aside (cols z s) (cols z s′)
+  freq-aside w = record { limits = λ i h. rw (w .columns, over-at); rest = rw (w .columns, over-at) }
 
-  pub marks : {x v : ℕ} → Wrote z s s′ Mark x v → Marked z s s′ x v
-  marks {x} {v} w =
+  pub freqs : {x v : ℕ} → SetsField z s s′ Freq x v → Marked z s s′ x v
+  freqs {x} {v} w =
       record {
         of = λ q b y a h.
-            becomes (mark-pooled (k .pooled) w) (mark-aside w)
+            becomes (freq-pooled (k .pooled) w) (freq-aside w)
             (marked z s s′ (k .pooled) q (h .front) x (h .back) (h .is) v w
             ∙ ap (λ (e : Entry). putAt q (map (entryAt (cols z s)) (h .front)) (withFreq v e ∷ []) (map (entryAt (cols z s)) (h .back)) (stateIn z s)) (h .here)
             ∙ ap₂ (λ l r. putAt q l (withFreq v y ∷ []) r (stateIn z s)) (h .before) (h .after));
@@ -248,13 +248,13 @@ module _ {z : Shape} {s s₁ : List ℕ} (k : Keeps z s) (n : length s₁ ≡ le
     main-seat : Seat z s₁ Main x [] e (queueOf Main (setQueue q (b ++ a) (stateIn z s)))
     main-seat = record { front = []; back = heads .0; is = heads .1; before = refl; here = head-eq-of-cons-eq shows; after = tail-eq-of-cons-eq shows }
 
-  pub sent-back : {s₂ : List ℕ} → length s₂ ≡ length s₁ → {q : Queue} {t x v : ℕ} → t ≡ listNo q → Moved z s s₁ t (listNo Main) x → Wrote z s₁ s₂ Mark x v → SentBack z s s₂ q x v
+  pub sent-back : {s₂ : List ℕ} → length s₂ ≡ length s₁ → {q : Queue} {t x v : ℕ} → t ≡ listNo q → Moved z s s₁ t (listNo Main) x → SetsField z s₁ s₂ Freq x v → SentBack z s s₂ q x v
   sent-back {s₂} n₁ {q} {t} {x} {v} e m₀ w =
       let m : Moved z s s₁ (listNo q) (listNo Main) x = rw e at m₀ in
       record {
         of = λ b y a h.
             let f : Becomes z s s₁ (pushTo Main y (setQueue q (b ++ a) (stateIn z s))) = went m b y a h in
-            let g = marks (f .keeps) n₁ w .of Main [] y (queueOf Main (setQueue q (b ++ a) (stateIn z s))) (main-seat m b y a h) in
+            let g = freqs (f .keeps) n₁ w .of Main [] y (queueOf Main (setQueue q (b ++ a) (stateIn z s))) (main-seat m b y a h) in
             becomes-then f
             (record {
               keeps = g .keeps;
@@ -265,7 +265,7 @@ module _ {z : Shape} {s s₁ : List ℕ} (k : Keeps z s) (n : length s₁ ≡ le
 
 -- ---- a value is replaced and then a frequency
 
-module _ {z : Shape} {s s₁ : List ℕ} (k : Keeps z s) {x v : ℕ} (w : Wrote z s s₁ Value x v) where
+module _ {z : Shape} {s s₁ : List ℕ} (k : Keeps z s) {x v : ℕ} (w : SetsField z s s₁ Value x v) where
   -- a seat stays a seat
   seat-valued : {q : Queue} {b : List Entry} {e : Entry} {a : List Entry} → Seat z s q x b e a → Seat z s₁ q x b (revalue v e) a
   seat-valued {q} h =
@@ -286,12 +286,12 @@ module _ {z : Shape} {s s₁ : List ℕ} (k : Keeps z s) {x v : ℕ} (w : Wrote 
       ∙ ap (λ (y : Entry). putAt q (map (entryAt (cols z s)) (h .front)) (revalue v y ∷ []) (map (entryAt (cols z s)) (h .back)) (stateIn z s)) (h .here)
       ∙ ap₂ (λ l r. putAt q l (revalue v e ∷ []) r (stateIn z s)) (h .before) (h .after))
 
-  pub replaced : length s₁ ≡ length s → {s₂ : List ℕ} → length s₂ ≡ length s₁ → {n : ℕ} → Wrote z s₁ s₂ Mark x n → Replaced z s s₂ x v n
+  pub replaced : length s₁ ≡ length s → {s₂ : List ℕ} → length s₂ ≡ length s₁ → {n : ℕ} → SetsField z s₁ s₂ Freq x n → Replaced z s s₂ x v n
   replaced l {s₂} l₁ {n} m =
       record {
         of = λ q b e a h.
             let f = seat-becomes l h in
-            let g = marks (f .keeps) l₁ m .of q b (revalue v e) a (seat-valued h) in
+            let g = freqs (f .keeps) l₁ m .of q b (revalue v e) a (seat-valued h) in
             let t : List Entry = b ++ (revalue v (withFreq n e) ∷ a) in
             becomes-then f (record { keeps = g .keeps; state = g .state ∙ ap (setQueue q t) (f .state) ∙ set-again q t (b ++ (revalue v e ∷ a)) (stateIn z s); rest = g .rest });
       }

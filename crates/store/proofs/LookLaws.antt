@@ -9,13 +9,13 @@ use native.Mathlib.Omega.{arith}
 use lib.Dec.{eqb}
 use lib.ListN.{length, getD}
 use borrow.Author.Tests.{eq-eqb, ne-eqb, eqb-true}
-use Rattle.nodes.specs.Nodes.{Key, Queue as Tag, Cols, cols, Reads}
+use Rattle.nodes.specs.Nodes.{Key, Queue as Tag, Cols, cols, GetsField}
 use Rattle.nodes.specs.declared.Shape.{Shape}
 use Rattle.lists.specs.Ring.{Among}
 use Rattle.key_index.specs.Stored.{LiveIn, Hit, Miss, IsFound}
 use Rattle.key_index.specs.declared.Found.{Found}
 use Rattle.key_index.specs.declared.Found.the-variants.{At, Nothing}
-use Rattle.pool.specs.Carries.{listsOf, Pooled, Kind}
+use Rattle.pool.specs.Carries.{listsOf, Pooled, LiveList}
 use Rattle.pool.proofs.CarriesLaws.{lives-tagged, lives-kind, lives-among, among-miss, among-lives}
 use Rattle.rules.specs.Parts.{bit, total, found, missing, splitBy}
 use Rattle.rules.specs.State.{Entry, State, Queue, Small, Main, keyIs, queueOf, keyed, places, place, nowhere, here, Sound}
@@ -26,7 +26,7 @@ use Rattle.store.specs.declared.QueueKind.the-variants.{Small as Small·
 use Rattle.store.specs.declared.Spot.{Spot}
 use Rattle.store.specs.declared.Spot.the-variants.{Resident, Ghost, Absent}
 use Rattle.store.specs.Holds.{listNo, ghostsNo, entryAt, keyAt, stateIn, Keeps, Held}
-use Rattle.store.specs.Seats.{kindOf, Seated, Buried, Oldest, Tail}
+use Rattle.store.specs.Seats.{queueKind, Seated, Buried, Oldest, Tail}
 use Rattle.store.specs.Looks.{Sits, Haunts, Lacks, Looks}
 use Rattle.store.proofs.MapLaws.{map-append, total-map, total-none, total-some}
 use Rattle.store.proofs.ShownLaws.{queue-shown, ghosts-shown}
@@ -50,14 +50,14 @@ module _ (z : Shape) (s : List ℕ) (p : Pooled z s) where
   abbrev f : ℕ → List ℕ
   f = listsOf z (cols z s)
 
-  not-here : (k t : ℕ) → Kind t → Miss z c k → (x : ℕ) → Among x (f t) → eqb k (getD (c Key) x 0) ≡ false
+  not-here : (k t : ℕ) → LiveList t → Miss z c k → (x : ℕ) → Among x (f t) → eqb k (getD (c Key) x 0) ≡ false
   not-here k t kind m x a = ne-eqb k (getD (c Key) x 0) (λ e. among-miss (p .carries) kind a m (sym e))
 
   -- a key that is not found stands nowhere
   pub miss-places : (k : ℕ) → Miss z c k → places k (stateIn z s) ≡ 0
   unfolding stateIn
   miss-places k m =
-      let kind : (t : ℕ) → 1 ≤ t → t < 4 → Kind t = λ t a b. record { above = a; below = b } in
+      let kind : (t : ℕ) → 1 ≤ t → t < 4 → LiveList t = λ t a b. record { above = a; below = b } in
       omega (
         arith,
         count-none (entryAt c) (keyIs k) (f 1) (not-here k 1 (kind 1 (omega arith) (omega arith)) m),
@@ -65,7 +65,7 @@ module _ (z : Shape) (s : List ℕ) (p : Pooled z s) where
         count-none (keyAt c) (eqb k) (f 3) (not-here k 3 (kind 3 (omega arith) (omega arith)) m),
       )
 
-  counted : (k t x : ℕ) → Kind t → Among x (f t) → getD (c Key) x 0 ≡ k → 1 ≤ places k (stateIn z s)
+  counted : (k t x : ℕ) → LiveList t → Among x (f t) → getD (c Key) x 0 ≡ k → 1 ≤ places k (stateIn z s)
   unfolding stateIn
   counted k zero x kind a e = absurd (omega (arith, kind .above))
   counted k (suc zero) x kind a e = omega (arith, count-some (entryAt c) (keyIs k) a (eq-eqb k (getD (c Key) x 0) (sym e)))
@@ -118,17 +118,17 @@ module _ {z : Shape} {s : List ℕ} (h : Held z s) where
     pub look-node : {x : ℕ} → r ≡ At x → x < z .room + 4
     look-node {x} e = omega (arith, f .hit x e .lives .below)
 
-    module _ {x : ℕ} (e : r ≡ At x) {t : ℕ} (g : Reads z s Tag x t) where
+    module _ {x : ℕ} (e : r ≡ At x) {t : ℕ} (g : GetsField z s Tag x t) where
       hit : Hit z (cols z s) k x
       hit = f .hit x e
 
       among : Among x (listsOf z (cols z s) t)
       among = lives-among (pool .carries) (hit .lives) (g .value)
 
-      at-list : (q : QueueKind) → t ≡ listNo (kindOf q) → Looks z s k (Resident q x)
+      at-list : (q : QueueKind) → t ≡ listNo (queueKind q) → Looks z s k (Resident q x)
       at-list q n =
           record {
-            resident = λ p y w. rw (same-queue w, same-node w) at (sits-in k x (kindOf q) (hit .holds) (subst (λ i. Among x (listsOf z (cols z s) i)) n among));
+            resident = λ p y w. rw (same-queue w, same-node w) at (sits-in k x (queueKind q) (hit .holds) (subst (λ i. Among x (listsOf z (cols z s) i)) n among));
             haunt = λ y w. let b : _≡_ {A = ℕ} 0 1 = cc in absurd (omega arith);
             absent = λ w. let b : _≡_ {A = ℕ} 0 1 = cc in absurd (omega arith);
           }
@@ -166,7 +166,7 @@ module _ {z : Shape} {s : List ℕ} (h : Held z s) where
 
 -- ---- from an answer to what the moves ask for
 
-pub looks-sits : {z : Shape} {s : List ℕ} {k : ℕ} {r : Spot} → Looks z s k r → {q : QueueKind} {x : ℕ} → r ≡ Resident q x → Sits z s k (kindOf q) x
+pub looks-sits : {z : Shape} {s : List ℕ} {k : ℕ} {r : Spot} → Looks z s k r → {q : QueueKind} {x : ℕ} → r ≡ Resident q x → Sits z s k (queueKind q) x
 looks-sits l {q} {x} e = l .resident q x e
 
 pub looks-haunts : {z : Shape} {s : List ℕ} {k : ℕ} {r : Spot} → Looks z s k r → {x : ℕ} → r ≡ Ghost x → Haunts z s k x
@@ -175,7 +175,7 @@ looks-haunts l {x} e = l .haunt x e
 pub looks-lacks : {z : Shape} {s : List ℕ} {k : ℕ} {r : Spot} → Looks z s k r → r ≡ Absent → Lacks z s k
 looks-lacks l e = l .absent e
 
-pub looks-seated : {z : Shape} {s : List ℕ} {k : ℕ} {r : Spot} → Looks z s k r → (q : QueueKind) {x : ℕ} → r ≡ Resident q x → Seated z s (kindOf q) x
+pub looks-seated : {z : Shape} {s : List ℕ} {k : ℕ} {r : Spot} → Looks z s k r → (q : QueueKind) {x : ℕ} → r ≡ Resident q x → Seated z s (queueKind q) x
 looks-seated l q {x} e = let t = l .resident q x e in record { before = t .before; entry = t .entry; after = t .after; seat = t .seat }
 
 pub looks-buried : {z : Shape} {s : List ℕ} {k : ℕ} {r : Spot} → Looks z s k r → {x : ℕ} → r ≡ Ghost x → Buried z s x

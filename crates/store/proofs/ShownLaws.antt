@@ -7,7 +7,7 @@ use Prim.Native.Nat.{ℕ, _+_, _*_, _≤_, _<_}
 use native.Mathlib.Omega.{arith}
 use lib.ListN.{length, getD, set}
 use lib.Seq.{getD-set-same, getD-set-other}
-use Rattle.nodes.specs.Nodes.{Field, Head, Key, Value, Next, Mark, Rest, Cols, cols, over, Room, Wrote}
+use Rattle.nodes.specs.Nodes.{Field, Head, Key, Value, Next, Freq, Rest, Cols, cols, over, Room, SetsField}
 use Rattle.nodes.specs.declared.Shape.{Shape}
 use Rattle.nodes.proofs.NodesLaws.{length-cols}
 use Rattle.nodes.proofs.OverLaws.{over-at}
@@ -17,7 +17,7 @@ use Rattle.lists.specs.Lists.{Lists}
 use Rattle.lists.proofs.ListsLaws.{lists-view, lists-node, lists-once, lists-elsewhere, lists-ext}
 use Rattle.pool.specs.Carries.{Carries, listsOf, Pooled, Aside, Alike, Moved, Released, Filled}
 use Rattle.rules.specs.State.{Entry, Limits, State, Queue, Small, Main, fresh, withFreq, revalue, queueOf, setQueue, setGhosts, pushTo, putAt}
-use Rattle.store.specs.Holds.{listNo, ghostsNo, entryOf, entryAt, keyOf, keyAt, limitsIn, shown, stateIn}
+use Rattle.store.specs.Holds.{listNo, ghostsNo, entryOf, entryAt, nodeKey, keyAt, limitsIn, shown, stateIn}
 use Rattle.store.proofs.MapLaws.{map-append, map-out, map-at}
 
 -- ---- columns that show the same
@@ -40,16 +40,16 @@ carried z s f k i =
       ghosts = map (keyAt (cols z s)) (lists-view (k .lists) {t = 3} (omega arith) i);
     }
 
--- nodes moved: other lists, the same keys, values and marks
+-- nodes moved: other lists, the same keys, values and freqs
 pub carried-alike : (z : Shape) (s s′ : List ℕ) (f : ℕ → List ℕ) → Carries z (cols z s′) f → Alike (cols z s) (cols z s′) → stateIn z s′ ≡ shown (cols z s) f
 carried-alike z s s′ f k a =
     carried z s′ f k
     ∙ (λ i.
     record {
       limits = limits-aside (a .aside) i;
-      small = map (entryOf (a .keys i) (a .values i) (a .marks i)) (f 1);
-      main = map (entryOf (a .keys i) (a .values i) (a .marks i)) (f 2);
-      ghosts = map (keyOf (a .keys i)) (f 3);
+      small = map (entryOf (a .keys i) (a .values i) (a .freqs i)) (f 1);
+      main = map (entryOf (a .keys i) (a .values i) (a .freqs i)) (f 2);
+      ghosts = map (nodeKey (a .keys i)) (f 3);
     })
 
 -- ---- a node moves
@@ -119,7 +119,7 @@ module _ (z : Shape) (s s′ : List ℕ) (k v x : ℕ) (p : Pooled z s) where
 
     other-entry : (y : ℕ) → y ≢ x → entryAt (cols z s′) y ≡ entryAt (cols z s) y
     other-entry y n =
-        rw (f .keys, f .values, f .marks, getD-set-other (cols z s Key) x y k 0 n, getD-set-other (cols z s Value) x y v 0 n, getD-set-other (cols z s Mark) x y 0 0 n)
+        rw (f .keys, f .values, f .freqs, getD-set-other (cols z s Key) x y k 0 n, getD-set-other (cols z s Value) x y v 0 n, getD-set-other (cols z s Freq) x y 0 0 n)
 
     own-entry : entryAt (cols z s′) x ≡ fresh k v
     own-entry =
@@ -127,10 +127,10 @@ module _ (z : Shape) (s s′ : List ℕ) (k v x : ℕ) (p : Pooled z s) where
         rw (
           f .keys,
           f .values,
-          f .marks,
+          f .freqs,
           getD-set-same (cols z s Key) x k 0 (rw (length-cols z s Key refl) (omega arith)),
           getD-set-same (cols z s Value) x v 0 (rw (length-cols z s Value refl) (omega arith)),
-          getD-set-same (cols z s Mark) x 0 0 (rw (length-cols z s Mark refl) (omega arith)),
+          getD-set-same (cols z s Freq) x 0 0 (rw (length-cols z s Freq refl) (omega arith)),
         )
 
     same-entries : (i : ℕ) → i ≢ 0 → i < 4 → map (entryAt (cols z s′)) (listsOf z (cols z s) i) ≡ map (entryAt (cols z s)) (listsOf z (cols z s) i)
@@ -174,7 +174,7 @@ module _ (z : Shape) (s s′ : List ℕ) (k v x : ℕ) (p : Pooled z s) where
         ghosts = own-entry 3 f i .key ∷ same-keys 3 f 3 (omega arith) (omega arith) i;
       })
 
--- ---- a node's value or mark is written
+-- ---- a node's value or frequency is written
 
 module _ (z : Shape) (s s′ : List ℕ) (p : Pooled z s) (q : Queue) (a : List ℕ) (x : ℕ) (b : List ℕ) (h : listsOf z (cols z s) (listNo q) ≡ a ++ x ∷ b) where
   abbrev e₀ : ℕ → Entry
@@ -210,7 +210,7 @@ module _ (z : Shape) (s s′ : List ℕ) (p : Pooled z s) (q : Queue) (a : List 
       ∙ map-out e₀ (entryAt (cols z s′)) x (listsOf z (cols z s) i) (lists-elsewhere (p .carries .lists) own-list a x b h i ne l) (t .others)
 
   touched-ghosts : (n : Entry) → Touched n → map (keyAt (cols z s′)) (listsOf z (cols z s′) ghostsNo) ≡ map (keyAt (cols z s)) (listsOf z (cols z s) ghostsNo)
-  touched-ghosts n t = ap₂ (λ l m. map (keyOf m) (view (z .room) l ghostsNo)) (t .links-kept) (t .keys-kept)
+  touched-ghosts n t = ap₂ (λ l m. map (nodeKey m) (view (z .room) l ghostsNo)) (t .links-kept) (t .keys-kept)
 
 -- the entry at x alone is another
 pub touched : (z : Shape) (s s′ : List ℕ) (p : Pooled z s) (q : Queue) (a : List ℕ) (x : ℕ) (b : List ℕ) (h : listsOf z (cols z s) (listNo q) ≡ a ++ x ∷ b) (n : Entry)
@@ -232,21 +232,21 @@ touched z s s′ p Main a x b h n t = λ i.
     }
 
 -- a value is written: its own entry has it, and the others are as they were
-module _ {z : Shape} {s s′ : List ℕ} {x v : ℕ} (w : Wrote z s s′ Value x v) where
+module _ {z : Shape} {s s′ : List ℕ} {x v : ℕ} (w : SetsField z s s′ Value x v) where
   value-keys : cols z s′ Key ≡ cols z s Key
   value-keys = rw (w .columns, over-at)
 
-  value-marks : cols z s′ Mark ≡ cols z s Mark
-  value-marks = rw (w .columns, over-at)
+  value-freqs : cols z s′ Freq ≡ cols z s Freq
+  value-freqs = rw (w .columns, over-at)
 
   value-values : cols z s′ Value ≡ set (cols z s Value) x v
   value-values = rw (w .columns, over-at)
 
   pub valued-other : (y : ℕ) → y ≢ x → entryAt (cols z s′) y ≡ entryAt (cols z s) y
-  valued-other y n = rw (value-keys, value-marks, value-values, getD-set-other (cols z s Value) x y v 0 n)
+  valued-other y n = rw (value-keys, value-freqs, value-values, getD-set-other (cols z s Value) x y v 0 n)
 
   pub valued-own : x < z .room → entryAt (cols z s′) x ≡ revalue v (entryAt (cols z s) x)
-  valued-own l = rw (value-keys, value-marks, value-values, getD-set-same (cols z s Value) x v 0 (rw (length-cols z s Value refl) (omega arith)))
+  valued-own l = rw (value-keys, value-freqs, value-values, getD-set-same (cols z s Value) x v 0 (rw (length-cols z s Value refl) (omega arith)))
 
 module _ (z : Shape) (s s′ : List ℕ) (p : Pooled z s) (q : Queue) (a : List ℕ) (x : ℕ) (b : List ℕ) (h : listsOf z (cols z s) (listNo q) ≡ a ++ x ∷ b) (v : ℕ) where
   abbrev e₁ : Entry
@@ -255,22 +255,22 @@ module _ (z : Shape) (s s′ : List ℕ) (p : Pooled z s) (q : Queue) (a : List 
   below : x < z .room
   below = node-in z s s′ p q a x b h
 
-  pub marked : Wrote z s s′ Mark x v → stateIn z s′ ≡ putAt q (map (entryAt (cols z s)) a) (withFreq v e₁ ∷ []) (map (entryAt (cols z s)) b) (stateIn z s)
+  pub marked : SetsField z s s′ Freq x v → stateIn z s′ ≡ putAt q (map (entryAt (cols z s)) a) (withFreq v e₁ ∷ []) (map (entryAt (cols z s)) b) (stateIn z s)
   marked w =
       let l = below in
       let k : cols z s′ Key ≡ cols z s Key = rw (w .columns, over-at) in
       let u : cols z s′ Value ≡ cols z s Value = rw (w .columns, over-at) in
-      let m : cols z s′ Mark ≡ set (cols z s Mark) x v = rw (w .columns, over-at) in
+      let m : cols z s′ Freq ≡ set (cols z s Freq) x v = rw (w .columns, over-at) in
       touched z s s′ p q a x b h (withFreq v e₁)
       (record {
         links-kept = rw (w .columns, over-at);
         heads-kept = rw (w .columns, over-at);
         keys-kept = k;
-        others = λ y n. rw (k, u, m, getD-set-other (cols z s Mark) x y v 0 n);
-        own = rw (k, u, m, getD-set-same (cols z s Mark) x v 0 (rw (length-cols z s Mark refl) (omega arith)));
+        others = λ y n. rw (k, u, m, getD-set-other (cols z s Freq) x y v 0 n);
+        own = rw (k, u, m, getD-set-same (cols z s Freq) x v 0 (rw (length-cols z s Freq refl) (omega arith)));
       })
 
-  pub valued : Wrote z s s′ Value x v → stateIn z s′ ≡ putAt q (map (entryAt (cols z s)) a) (revalue v e₁ ∷ []) (map (entryAt (cols z s)) b) (stateIn z s)
+  pub valued : SetsField z s s′ Value x v → stateIn z s′ ≡ putAt q (map (entryAt (cols z s)) a) (revalue v e₁ ∷ []) (map (entryAt (cols z s)) b) (stateIn z s)
   valued w =
       touched z s s′ p q a x b h (revalue v e₁)
       (record { links-kept = rw (w .columns, over-at); heads-kept = rw (w .columns, over-at); keys-kept = rw (w .columns, over-at); others = valued-other w; own = valued-own w below })

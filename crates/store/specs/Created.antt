@@ -17,7 +17,7 @@ pub record Limited (z : Shape) (s s′ : List ℕ) (L : Limits) : Type 0 where
   pub columns : cols z s′ ≡ limited (cols z s) L
 
 -- from s, whatever it was, to s′ a store with the limits L was created, and what stands behind it stayed
-pub record Created (L : Limits) (s s′ : List ℕ) : Type 0 where
+pub record SetUp (L : Limits) (s s′ : List ℕ) : Type 0 where
   pub held : Held (shapeFor L) s′
   pub state : stateIn (shapeFor L) s′ ≡ emptyAt L
   pub rest : cols (shapeFor L) s′ Rest ≡ cols (shapeFor L) s Rest

@@ -4,7 +4,7 @@ use mathlib.Core.Path.{_≡_}
 use mathlib.Core.List.{List, map}
 use Prim.Native.Nat.{ℕ, _+_, _*_}
 use lib.ListN.{getD}
-use Rattle.nodes.specs.Nodes.{Head, Key, Value, Mark, Rest, Cols, cols, Room}
+use Rattle.nodes.specs.Nodes.{Head, Key, Value, Freq, Rest, Cols, cols, Room}
 use Rattle.nodes.specs.declared.Shape.{Shape}
 use Rattle.pool.specs.Carries.{listsOf, Pooled}
 use Rattle.rules.specs.State.{Entry, Limits, State, Queue, Small, Main, Sound}
@@ -19,18 +19,18 @@ listNo Main = 2
 abbrev pub ghostsNo : ℕ
 ghostsNo = 3
 
--- the entry that a node carries, by the columns of keys, values and marks
+-- the entry that a node carries, by the columns of keys, values and freqs
 abbrev pub entryOf : List ℕ → List ℕ → List ℕ → ℕ → Entry
-entryOf keys values marks y = record { key = getD keys y 0; value = getD values y 0; freq = getD marks y 0 }
+entryOf keys values freqs y = record { key = getD keys y 0; value = getD values y 0; freq = getD freqs y 0 }
 
 abbrev pub entryAt : Cols → ℕ → Entry
-entryAt c = entryOf (c Key) (c Value) (c Mark)
+entryAt c = entryOf (c Key) (c Value) (c Freq)
 
-abbrev pub keyOf : List ℕ → ℕ → ℕ
-keyOf keys y = getD keys y 0
+abbrev pub nodeKey : List ℕ → ℕ → ℕ
+nodeKey keys y = getD keys y 0
 
 abbrev pub keyAt : Cols → ℕ → ℕ
-keyAt c = keyOf (c Key)
+keyAt c = nodeKey (c Key)
 
 abbrev pub limitsIn : Cols → Limits
 limitsIn c = record { capacity = getD (c Head) 0 0; smallLimit = getD (c Head) 1 0; ghostLimit = getD (c Head) 2 0 }

@@ -11,7 +11,7 @@ use Rattle.store.specs.declared.QueueKind.{QueueKind}
 use Rattle.store.specs.declared.Spot.{Spot}
 use Rattle.store.specs.declared.Spot.the-variants.{Resident, Ghost, Absent}
 use Rattle.store.specs.Holds.{stateIn}
-use Rattle.store.specs.Seats.{kindOf, Seat, Grave}
+use Rattle.store.specs.Seats.{queueKind, Seat, Grave}
 
 -- the key k is resident at the node x of the queue q
 pub record Sits (z : Shape) (s : List ℕ) (k : ℕ) (q : Queue) (x : ℕ) : Type 0 where
@@ -36,6 +36,6 @@ pub record Lacks (z : Shape) (s : List ℕ) (k : ℕ) : Type 0 where
 
 -- what a lookup of k says
 pub record Looks (z : Shape) (s : List ℕ) (k : ℕ) (r : Spot) : Type 0 where
-  pub resident : (q : QueueKind) (x : ℕ) → r ≡ Resident q x → Sits z s k (kindOf q) x
+  pub resident : (q : QueueKind) (x : ℕ) → r ≡ Resident q x → Sits z s k (queueKind q) x
   pub haunt : (x : ℕ) → r ≡ Ghost x → Haunts z s k x
   pub absent : r ≡ Absent → Lacks z s k

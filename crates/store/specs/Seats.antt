@@ -13,9 +13,9 @@ use Rattle.store.specs.declared.QueueKind.the-variants.{Small as Small·
 use Rattle.store.specs.Holds.{listNo, ghostsNo, entryAt, keyAt, stateIn, Keeps, Becomes}
 
 -- the queue that the code's is
-abbrev pub kindOf : QueueKind → Queue
-kindOf Small· = Small
-kindOf Main· = Main
+abbrev pub queueKind : QueueKind → Queue
+queueKind Small· = Small
+queueKind Main· = Main
 
 -- the node x carries the entry e of the queue q, with the entries b before it and a after it
 pub record Seat (z : Shape) (s : List ℕ) (q : Queue) (x : ℕ) (b : List Entry) (e : Entry) (a : List Entry) : Type 0 where

@@ -9,9 +9,9 @@ ghost use Rattle.rules.specs.Verdict.{storeBytes};
 ghost use Rattle.sizing.specs.Answers.{limitsOf};
 ghost use mathlib.Core.List.{_∷_};
 ghost use Rattle.store.specs.Holds.{listNo, ghostsNo, stateIn, shapeFor, Keeps, Held, Becomes};
-ghost use Rattle.store.specs.Seats.{kindOf, Seated, Tail, Buried, Oldest, Marked, Replaced, Freed, SentBack, Laid, Exhumed, Fronted, CanAdmit, CanHaunt};
+ghost use Rattle.store.specs.Seats.{queueKind, Seated, Tail, Buried, Oldest, Marked, Replaced, Freed, SentBack, Laid, Exhumed, Fronted, CanAdmit, CanHaunt};
 ghost use Rattle.store.specs.Looks.{Looks};
-ghost use Rattle.store.specs.Created.{Limited, Created, Stated};
+ghost use Rattle.store.specs.Created.{Limited, SetUp, Stated};
 use key_index::Found;
 use nodes::Shape;
 use sizing::Limits;
@@ -38,7 +38,7 @@ const GHOST_LIMIT: usize = 2;
 
 // The number of a queue's list.
 pub fn list_of(q: QueueKind) -> usize
-    ensures { λ r. ⌜ r ≡ listNo (kindOf q) ⌝ }
+    ensures { λ r. ⌜ r ≡ listNo (queueKind q) ⌝ }
     ensures { λ r. ⌜ r < 4 ⌝ }
 {
     match q {
@@ -71,7 +71,7 @@ pub fn ghost_limit_of(s: &[u8], z: Shape) -> u64
 // How many entries a queue has.
 pub fn len_of(s: &[u8], z: Shape, q: QueueKind) -> u64
     requires { ⌜ Keeps z (now s) ⌝ }
-    ensures { λ r. ⌜ r ≡ length (queueOf (kindOf q) (stateIn z (now (s .entry)))) ⌝ }
+    ensures { λ r. ⌜ r ≡ length (queueOf (queueKind q) (stateIn z (now (s .entry)))) ⌝ }
 {
     lists::length_of(s, z, list_of(q))
 }
@@ -85,8 +85,8 @@ pub fn ghosts_len(s: &[u8], z: Shape) -> u64
 
 // The last entry of a queue that is not empty.
 pub fn tail_of(s: &[u8], z: Shape, q: QueueKind) -> usize
-    requires { ⌜ Keeps z (now s) × (1 ≤ length (queueOf (kindOf q) (stateIn z (now s)))) ⌝ }
-    ensures { λ r. ⌜ Tail z (now (s .entry)) (kindOf q) r ⌝ }
+    requires { ⌜ Keeps z (now s) × (1 ≤ length (queueOf (queueKind q) (stateIn z (now s)))) ⌝ }
+    ensures { λ r. ⌜ Tail z (now (s .entry)) (queueKind q) r ⌝ }
 {
     lists::tail_of(s, z, list_of(q))
 }
@@ -125,30 +125,30 @@ pub fn set_freq(s: &mut [u8], z: Shape, x: usize, n: usize)
     requires { ⌜ Keeps z (now s) × (x < z .room) × (n < 256) ⌝ }
     ensures { λ _. ⌜ Marked z (now (s .entry)) (now (s .exit)) x n ⌝ }
 {
-    nodes::set_mark(s, z, x, n);
+    nodes::set_freq(s, z, x, n);
 }
 
 // The entry of a queue at a node leaves; the node is free.
 pub fn release(s: &mut [u8], z: Shape, q: QueueKind, x: usize)
-    requires { ⌜ Keeps z (now s) × Seated z (now s) (kindOf q) x ⌝ }
-    ensures { λ _. ⌜ Freed z (now (s .entry)) (now (s .exit)) (kindOf q) x ⌝ }
+    requires { ⌜ Keeps z (now s) × Seated z (now s) (queueKind q) x ⌝ }
+    ensures { λ _. ⌜ Freed z (now (s .entry)) (now (s .exit)) (queueKind q) x ⌝ }
 {
     pool::release(s, z, list_of(q), x);
 }
 
 // The entry of a queue at a node goes to Main's head with another frequency.
 pub fn send_back(s: &mut [u8], z: Shape, q: QueueKind, x: usize, n: usize)
-    requires { ⌜ Keeps z (now s) × Seated z (now s) (kindOf q) x × (n < 256) ⌝ }
-    ensures { λ _. ⌜ SentBack z (now (s .entry)) (now (s .exit)) (kindOf q) x n ⌝ }
+    requires { ⌜ Keeps z (now s) × Seated z (now s) (queueKind q) x × (n < 256) ⌝ }
+    ensures { λ _. ⌜ SentBack z (now (s .entry)) (now (s .exit)) (queueKind q) x n ⌝ }
 {
     pool::move_to(s, z, list_of(q), lists::MAIN, x);
-    nodes::set_mark(s, z, x, n);
+    nodes::set_freq(s, z, x, n);
 }
 
 // The entry of a queue at a node leaves, and the node becomes the newest ghost: its key is in the index already.
 pub fn lay_down(s: &mut [u8], z: Shape, q: QueueKind, x: usize)
-    requires { ⌜ Keeps z (now s) × Seated z (now s) (kindOf q) x ⌝ }
-    ensures { λ _. ⌜ Laid z (now (s .entry)) (now (s .exit)) (kindOf q) x ⌝ }
+    requires { ⌜ Keeps z (now s) × Seated z (now s) (queueKind q) x ⌝ }
+    ensures { λ _. ⌜ Laid z (now (s .entry)) (now (s .exit)) (queueKind q) x ⌝ }
 {
     pool::move_to(s, z, list_of(q), lists::GHOSTS, x);
 }
@@ -156,7 +156,7 @@ pub fn lay_down(s: &mut [u8], z: Shape, q: QueueKind, x: usize)
 // A new pair goes to the head of a queue with frequency 0.
 pub fn admit(s: &mut [u8], z: Shape, q: QueueKind, k: u64, v: u64)
     requires { ⌜ Keeps z (now s) × CanAdmit z (now s) k ⌝ }
-    ensures { λ _. ⌜ Becomes z (now (s .entry)) (now (s .exit)) (pushTo (kindOf q) (fresh k v) (stateIn z (now (s .entry)))) ⌝ }
+    ensures { λ _. ⌜ Becomes z (now (s .entry)) (now (s .exit)) (pushTo (queueKind q) (fresh k v) (stateIn z (now (s .entry)))) ⌝ }
 {
     pool::fill(s, z, list_of(q), k, v);
 }
@@ -210,7 +210,7 @@ fn set_limits(s: &mut [u8], z: Shape, limits: Limits)
 // Creates a store with these limits from any bytes: it holds the empty state.
 pub fn set_up(s: &mut [u8], limits: Limits)
     requires { ⌜ Fine (limitsOf limits) × (storeBytes ≤ length (now s)) ⌝ }
-    ensures { λ _. ⌜ Created (limitsOf limits) (now (s .entry)) (now (s .exit)) ⌝ }
+    ensures { λ _. ⌜ SetUp (limitsOf limits) (now (s .entry)) (now (s .exit)) ⌝ }
 {
     let z = shape_of(limits);
     set_limits(s, z, limits);
@@ -239,5 +239,5 @@ pub fn replace(s: &mut [u8], z: Shape, x: usize, v: u64, n: usize)
     ensures { λ _. ⌜ Replaced z (now (s .entry)) (now (s .exit)) x v n ⌝ }
 {
     nodes::set_value(s, z, x, v);
-    nodes::set_mark(s, z, x, n);
+    nodes::set_freq(s, z, x, n);
 }

@@ -1,13 +1,13 @@
 -- `empty_all` meets its contract: the lists below t are empty.
 -- Assumes nothing.
 use borrow.Author.Needs.{needs}
-use Rattle.lists.proofs.FreshLaws.{Emptying, emptying-start, emptying-next, emptying-end}
+use Rattle.lists.proofs.FreshLaws.{EmptyingLists, emptying-start, emptying-next, emptying-end}
 use Prim.Native.Nat.{_-_}
 use Rattle.lists.proofs.empty_all.Statement.{statement}
 use Rattle.lists.proofs.empty_all.Tie as tie
 
 abbrev Inv-loop : tie.InvT-loop
-Inv-loop s₀ z t₀ s t = Emptying z s₀ s t
+Inv-loop s₀ z t₀ s t = EmptyingLists z s₀ s t
 
 abbrev μ-loop : tie.MeasureT-loop
 μ-loop s₀ z t₀ s t = 4 - t

@@ -3,15 +3,15 @@
 use borrow.Author.Needs.{needs}
 use Rattle.store.proofs.LookLaws.{tail-seated}
 use Rattle.requests.proofs.ClearLaws.{Draining, left, draining-start, draining-next, draining-less, draining-end}
-use Rattle.store.specs.Seats.{kindOf}
+use Rattle.store.specs.Seats.{queueKind}
 use Rattle.requests.proofs.drain.Statement.{statement}
 use Rattle.requests.proofs.drain.Tie as tie
 
 abbrev Inv-loop : tie.InvT-loop
-Inv-loop s₀ z q s = Draining z s₀ s (kindOf q)
+Inv-loop s₀ z q s = Draining z s₀ s (queueKind q)
 
 abbrev μ-loop : tie.MeasureT-loop
-μ-loop s₀ z q s = left z (kindOf q) s
+μ-loop s₀ z q s = left z (queueKind q) s
 
 pub drain-spec : {M : Type 1} → statement M
 drain-spec =

@@ -1,7 +1,7 @@
--- `soundness::is_cool` meets its contract: the mark first, then the list.
+-- `soundness::is_cool` meets its contract: the frequency first, then the list.
 -- Assumes nothing.
 use borrow.Author.Needs.{needs}
-use Rattle.soundness.proofs.CheckLaws.{mark-cool, small-warm, main-warm, none-warm}
+use Rattle.soundness.proofs.CheckLaws.{freq-cool, small-warm, main-warm, none-warm}
 use Rattle.soundness.proofs.is_cool.Statement.{statement}
 use Rattle.soundness.proofs.is_cool.Tie as tie
 
@@ -11,7 +11,7 @@ is-cool-spec =
     (tie.spec
     (λ c κs. search needs)
     (λ c. search needs)
-    (λ c. search mark-cool)
+    (λ c. search freq-cool)
     (λ c κs. search needs)
     (λ c. search small-warm)
     (λ c. search main-warm)

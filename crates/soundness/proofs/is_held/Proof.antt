@@ -1,4 +1,4 @@
--- `soundness::is_held` meets its contract: the pool first, then the numbers, then the marks.
+-- `soundness::is_held` meets its contract: the pool first, then the numbers, then the freqs.
 -- Assumes nothing.
 use borrow.Author.Needs.{needs}
 use Rattle.cells.specs.Cells.{Bytes}

@@ -2,8 +2,8 @@
 -- Assumes nothing.
 use borrow.Author.Needs.{needs}
 use Rattle.lists.proofs.CheckLaws.{Walking, walk-start, walk-next, walk-bad, walk-end}
-use Rattle.lists.proofs.chained.Statement.{statement}
-use Rattle.lists.proofs.chained.Tie as tie
+use Rattle.lists.proofs.list_ok.Statement.{statement}
+use Rattle.lists.proofs.list_ok.Tie as tie
 
 abbrev Inv-loop : tie.InvT-loop
 Inv-loop s z t left₀ u₀ left u = Walking z s t left u
@@ -13,6 +13,6 @@ abbrev μ-loop : tie.MeasureT-loop
 
 ruleset laws = (needs, walk-start, walk-next, walk-bad, walk-end)
 
-pub chained-spec : {M : Type 1} → statement M
-chained-spec =
+pub list-ok-spec : {M : Type 1} → statement M
+list-ok-spec =
     tie.close (tie.spec Inv-loop μ-loop (λ c κs. search laws) (λ c. search laws) (λ c. search laws) (λ c κs. search laws) (λ c κs. search laws) (λ c. search laws) (λ c. search laws) (λ c. search laws) (λ c. search laws) (λ c κs. search laws) (λ c. search laws))

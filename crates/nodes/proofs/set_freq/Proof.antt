@@ -1,15 +1,15 @@
--- `nodes::set_mark` meets its contract.
+-- `nodes::set_freq` meets its contract.
 -- Assumes nothing.
 use borrow.Author.Needs.{needs}
 use Rattle.nodes.proofs.NodesLaws.{wrote}
-use Rattle.nodes.proofs.set_mark.Statement.{statement}
-use Rattle.nodes.proofs.set_mark.Tie as tie
+use Rattle.nodes.proofs.set_freq.Statement.{statement}
+use Rattle.nodes.proofs.set_freq.Tie as tie
 
 returns : tie.Need-returns
 returns c = search (needs, wrote)
 
-pub set-mark-spec : {M : Type 1} → statement M
-set-mark-spec =
+pub set-freq-spec : {M : Type 1} → statement M
+set-freq-spec =
     tie.close
     (tie.spec
     (λ c. search needs)

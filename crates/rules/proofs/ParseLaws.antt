@@ -64,7 +64,7 @@ read-end s i h = rw (le-leb (length s) i h)
 
 module _ (s : List ℕ) where
   enough-step : (n m i : ℕ) → ((after : ℕ) → i < after → walk (readAt s) n after ≡ walk (readAt s) m after)
-      → (r : Reading) → readAt s i ≡ r → onReading (walk (readAt s) n) i r ≡ onReading (walk (readAt s) m) i r
+      → (r : Reading Request) → readAt s i ≡ r → onReading (walk (readAt s) n) i r ≡ onReading (walk (readAt s) m) i r
   enough-step n m i ih (ask q after) e = ap (with q) (ih after (read-goes s i q after e .0))
   enough-step n m i ih strange e = refl
   enough-step n m i ih short e = refl
@@ -93,7 +93,7 @@ made-sized s i Insert h = (le-lt 8 s (i + 2) h, le-lt 8 s (i + 10) h)
 made-sized s i Evict h = tt
 made-sized s i Clear h = tt
 
-abbrev sizes : Reading → Type 0
+abbrev sizes : Reading Request → Type 0
 sizes (ask q after) = Narrow q
 sizes strange = Unit {0}
 sizes short = Unit {0}
@@ -109,7 +109,7 @@ read-sized : (s : List ℕ) (i : ℕ) → Bytes s → sizes (readAt s i)
 unfolding readAt
 read-sized s i h = reading-sized s i (spotAt s i) h
 
-turn-sized : (more : ℕ → Parsed) (i : ℕ) (r : Reading) → sizes r → ((after : ℕ) → AllNarrow (more after .requests)) → AllNarrow (onReading more i r .requests)
+turn-sized : (more : ℕ → Parsed Request) (i : ℕ) (r : Reading Request) → sizes r → ((after : ℕ) → AllNarrow (more after .requests)) → AllNarrow (onReading more i r .requests)
 turn-sized more i (ask q after) z ih = (z, ih after)
 turn-sized more i strange z ih = tt
 turn-sized more i short z ih = tt

@@ -56,23 +56,23 @@ pub record Trace : Type 0 where
   pub told : List ℕ
   pub after : State
 
-abbrev opened : Verdict → Reads
+abbrev opened : Verdict State → Reads
 opened (done σ bs) = reads σ
 opened (refused n d) = damaged
 
-abbrev begun : Verdict → Start → Verdict
+abbrev begun : Verdict State → Start → Verdict State
 begun v (settings c s g) = create c s g storeBytes
 begun v goesOn = v
 
-abbrev played : Verdict → Trace → Verdict
+abbrev played : Verdict State → Trace → Verdict State
 played v t = call (opened (begun v (t .start))) (t .asked) 65536
 
 -- each trace after the other
-abbrev pub playedAll : Verdict → List Trace → List Verdict
+abbrev pub playedAll : Verdict State → List Trace → List (Verdict State)
 playedAll v [] = []
 playedAll v (t ∷ ts) = played v t ∷ playedAll (played v t) ts
 
-abbrev pub shouldBe : Trace → Verdict
+abbrev pub shouldBe : Trace → Verdict State
 shouldBe t = done (t .after) (t .told)
 
 -- ---- the rows of document 01

@@ -95,7 +95,7 @@ read-at pre q rest h =
     ap (λ i. made s i (kindOf q)) (sym (add-zero n)) ∙ sym (made-drop n s 0 (kindOf q)) ∙ ap (λ l. made l 0 (kindOf q)) seam ∙ made-written q rest h in
     ap (reading s n) p ∙ ap₂ (λ (x : Request) (y : ℕ). ask x y) m (ap (λ a. n + a) (sym (written-length q)))
 
-abbrev all : List Request → Parsed
+abbrev all : List Request → Parsed Request
 all qs = record { requests = qs; end = whole }
 
 trip-from : (pre : List ℕ) (qs : List Request) → AllNarrow qs → parseFrom (pre ++ allWritten qs) (length pre) ≡ all qs

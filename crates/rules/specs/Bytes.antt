@@ -45,14 +45,14 @@ encodeAll (r ∷ rs) = encode r ++ encodeAll rs
 
 abbrev pub row : Kind → Row
 row Get = record { kind = Get; mark = mark 71 84; bytes = 10; room = 10 }
+row Insert = record { kind = Insert; mark = mark 73 78; bytes = 18; room = 28 }
 row Peek = record { kind = Peek; mark = mark 80 75; bytes = 10; room = 10 }
 row Remove = record { kind = Remove; mark = mark 82 77; bytes = 10; room = 10 }
-row Insert = record { kind = Insert; mark = mark 73 78; bytes = 18; room = 28 }
 row Evict = record { kind = Evict; mark = mark 69 86; bytes = 2; room = 36 }
 row Clear = record { kind = Clear; mark = mark 67 76; bytes = 2; room = 2 }
 
 abbrev pub kinds : List Kind
-kinds = Get ∷ Peek ∷ Remove ∷ Insert ∷ Evict ∷ Clear ∷ []
+kinds = Get ∷ Insert ∷ Peek ∷ Remove ∷ Evict ∷ Clear ∷ []
 
 unfoldable pub table : List Row
 table = map row kinds
@@ -107,18 +107,18 @@ made s i Insert = IN (le 8 s (i + 2)) (le 8 s (i + 10))
 made s i Evict = EV
 made s i Clear = CL
 
--- a request with the offset after it; or why there is none
-pub data Reading : Type 0 where
-  ask : Request → ℕ → Reading
-  strange short end : Reading
+-- what stands at an offset, for requests of any type: a request with the offset after it; or why there is none
+pub data Reading (A : Type 0) : Type 0 where
+  ask : A → ℕ → Reading A
+  strange short end : Reading A
 
-abbrev pub reading : List ℕ → ℕ → Spot → Reading
+abbrev pub reading : List ℕ → ℕ → Spot → Reading Request
 reading s i (at k) = ask (made s i k) (i + row k .bytes)
 reading s i unknown = strange
 reading s i cut = short
 reading s i over = end
 
-unfoldable pub readAt : List ℕ → ℕ → Reading
+unfoldable pub readAt : List ℕ → ℕ → Reading Request
 unfolding spotAt le
 readAt s i = reading s i (spotAt s i)
 
@@ -130,34 +130,34 @@ pub data End : Type 0 where
   unknownAt cutAt : ℕ → End
 
 -- the requests up to there
-pub record Parsed : Type 0 where
-  pub requests : List Request
+pub record Parsed (A : Type 0) : Type 0 where
+  pub requests : List A
   pub end : End
 
-abbrev pub ends : End → Parsed
+abbrev pub ends : {A : Type 0} → End → Parsed A
 ends e = record { requests = []; end = e }
 
-abbrev pub with : Request → Parsed → Parsed
+abbrev pub with : {A : Type 0} → A → Parsed A → Parsed A
 with r p = record { requests = r ∷ p .requests; end = p .end }
 
 -- what was read at an offset, and what more gives for the offset after it
-abbrev pub onReading : (ℕ → Parsed) → ℕ → Reading → Parsed
+abbrev pub onReading : {A : Type 0} → (ℕ → Parsed A) → ℕ → Reading A → Parsed A
 onReading more i (ask r after) = with r (more after)
 onReading more i strange = ends (unknownAt i)
 onReading more i short = ends (cutAt i)
 onReading more i end = ends whole
 
 -- so many records from an offset on, by a reader of one record
-unfoldable pub walk : (ℕ → Reading) → ℕ → ℕ → Parsed
+unfoldable pub walk : {A : Type 0} → (ℕ → Reading A) → ℕ → ℕ → Parsed A
 walk read zero i = ends whole
 walk read (suc n) i = onReading (walk read n) i (read i)
 
 -- each record has bytes, so there are no more records than bytes
-unfoldable pub parseFrom : List ℕ → ℕ → Parsed
+unfoldable pub parseFrom : List ℕ → ℕ → Parsed Request
 unfolding walk readAt
 parseFrom s i = walk (readAt s) (length s) i
 
-unfoldable pub parse : List ℕ → Parsed
+unfoldable pub parse : List ℕ → Parsed Request
 unfolding parseFrom
 parse s = parseFrom s 0
 

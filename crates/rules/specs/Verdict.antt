@@ -16,10 +16,10 @@ use Rattle.rules.specs.Bytes.{End, whole, unknownAt, cutAt, Parsed, pars
 abbrev pub mostRequestBytes : ℕ
 mostRequestBytes = 32768
 
--- turned away by a number, with a detail; or done: the state, and the reply bytes
-pub data Verdict : Type 0 where
-  refused : ℕ → ℕ → Verdict
-  done : State → List ℕ → Verdict
+-- turned away by a number, with a detail; or done: the state, of any type, and the reply bytes
+pub data Verdict (S : Type 0) : Type 0 where
+  refused : ℕ → ℕ → Verdict S
+  done : S → List ℕ → Verdict S
 
 -- a row of the table of refusals: when, the number, the detail
 pub record RefusalRow : Type 0 where
@@ -28,7 +28,7 @@ pub record RefusalRow : Type 0 where
   pub detail : ℕ
 
 -- the first row that applies, and the verdict where none does
-abbrev pub unless : List RefusalRow → Verdict → Verdict
+abbrev pub unless : {S : Type 0} → List RefusalRow → Verdict S → Verdict S
 unless [] v = v
 unless (r ∷ rs) v = cond (r .when) (refused (r .number) (r .detail)) (unless rs v)
 
@@ -42,12 +42,12 @@ storeBytes = 57600
 abbrev pub createRows : ℕ → List RefusalRow
 createRows bytes = record { when = ltb bytes storeBytes; number = 6; detail = 0 } ∷ []
 
-abbrev pub onSized : ℕ → Sized → Verdict
+abbrev pub onSized : ℕ → Sized → Verdict State
 onSized bytes (misfit n) = refused n 0
 onSized bytes (limits L) = unless (createRows bytes) (done (emptyAt L) [])
 
 -- settings, and a store of so many bytes: rows 1 to 6
-unfoldable pub create : ℕ → Float → Float → ℕ → Verdict
+unfoldable pub create : ℕ → Float → Float → ℕ → Verdict State
 unfolding sizingUpTo
 create capacity small ghost bytes = onSized bytes (sizing capacity small ghost)
 
@@ -70,17 +70,17 @@ brokenAt (unknownAt i) = i
 brokenAt (cutAt i) = i
 
 -- rows 8 to 10, for requests of so many bytes that parse so, and room for so many reply bytes
-abbrev pub runRows : ℕ → Parsed → ℕ → List RefusalRow
+abbrev pub runRows : ℕ → Parsed Request → ℕ → List RefusalRow
 runRows bytes p room =
     record { when = ltb mostRequestBytes bytes; number = 8; detail = 0 }
     ∷ record { when = broken (p .end); number = 9; detail = brokenAt (p .end) }
     ∷ record { when = ltb room (roomFor (p .requests)); number = 10; detail = roomFor (p .requests) }
     ∷ []
 
-abbrev pub finished : Outcome → Verdict
+abbrev pub finished : Outcome → Verdict State
 finished o = done (o .state) (encodeAll (o .replies))
 
-unfoldable pub call : Reads → List ℕ → ℕ → Verdict
+unfoldable pub call : Reads → List ℕ → ℕ → Verdict State
 unfolding parse run encodeAll roomFor
 call short bs room = refused 6 0
 call damaged bs room = refused 7 0

@@ -1,0 +1,37 @@
+-- A refusal is known by its number and its detail: no two share both.
+-- Assumes nothing.
+use Prim.Native.Nat.{ℕ}
+use mathlib.Core.Path.{_≡_, refl, sym, ap₂, _∙_}
+use mathlib.Core.Bool.{cond}
+use lib.Dec.{eqb}
+use Rattle.rules.specs.declared.Turned.{Turned}
+use Rattle.rules.specs.declared.Turned.the-variants.{NoCapacity, CapacityAbove, SmallRatio, GhostRatio, GhostLimit, ShortStore, DamagedStore, LongRequests, BadRecord, NoRoom}
+use Rattle.rules.specs.Refusals.{numberOf, detailOf}
+
+-- the refusal that a number and a detail stand for
+abbrev turnedBy : ℕ → ℕ → Turned
+turnedBy n d =
+    cond (eqb n 1) NoCapacity
+    (cond (eqb n 2) CapacityAbove
+    (cond (eqb n 3) SmallRatio
+    (cond (eqb n 4) GhostRatio
+    (cond (eqb n 5) GhostLimit
+    (cond (eqb n 6) ShortStore
+    (cond (eqb n 7) DamagedStore
+    (cond (eqb n 8) LongRequests
+    (cond (eqb n 9) (BadRecord d) (NoRoom d)))))))))
+
+turned-back : (t : Turned) → turnedBy (numberOf t) (detailOf t) ≡ t
+turned-back NoCapacity = refl
+turned-back CapacityAbove = refl
+turned-back SmallRatio = refl
+turned-back GhostRatio = refl
+turned-back GhostLimit = refl
+turned-back ShortStore = refl
+turned-back DamagedStore = refl
+turned-back LongRequests = refl
+turned-back (BadRecord at) = refl
+turned-back (NoRoom room) = refl
+
+pub turned-once : (t u : Turned) → numberOf t ≡ numberOf u → detailOf t ≡ detailOf u → t ≡ u
+turned-once t u n d = sym (turned-back t) ∙ ap₂ turnedBy n d ∙ turned-back u

@@ -9,7 +9,7 @@ use Rattle.rules.specs.declared.Turned.the-variants.{NoCapacity, Capacit
 use Rattle.rules.specs.Refusals.{numberOf, detailOf}
 
 -- the refusal that a number and a detail stand for
-abbrev turnedBy : ℕ → ℕ → Turned
+abbrev pub turnedBy : ℕ → ℕ → Turned
 turnedBy n d =
     cond (eqb n 1) NoCapacity
     (cond (eqb n 2) CapacityAbove
@@ -21,7 +21,7 @@ turnedBy n d =
     (cond (eqb n 8) LongRequests
     (cond (eqb n 9) (BadRecord d) (NoRoom d)))))))))
 
-turned-back : (t : Turned) → turnedBy (numberOf t) (detailOf t) ≡ t
+pub turned-back : (t : Turned) → turnedBy (numberOf t) (detailOf t) ≡ t
 turned-back NoCapacity = refl
 turned-back CapacityAbove = refl
 turned-back SmallRatio = refl

@@ -28,7 +28,7 @@ abbrev gives : ℕ → Float → ℕ → Float → ℕ → Size
 gives c s sl g gl = record { capacity = c; smallRatio = s; ghostRatio = g; told = limits (record { capacity = c; smallLimit = sl; ghostLimit = gl }) }
 
 abbrev refuses : ℕ → Float → Float → ℕ → Size
-refuses c s g n = record { capacity = c; smallRatio = s; ghostRatio = g; told = misfit n }
+refuses c s g n = record { capacity = c; smallRatio = s; ghostRatio = g; told = misfit n 0 }
 
 abbrev pub sizes : List Size
 sizes =

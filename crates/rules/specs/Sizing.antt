@@ -53,10 +53,10 @@ beyond l p = not (finite p) || ltb l (nearest p)
 
 -- ---- the answer
 
--- the limits, or the number of the refusal
+-- the limits, or a refusal: its number and its detail
 pub data Sized : Type 0 where
   limits : Limits → Sized
-  refused : ℕ → Sized
+  refused : ℕ → ℕ → Sized
 
 -- the limits of a capacity and two ratios, where nothing is refused
 unfoldable pub limitsFor : ℕ → Float → Float → Limits
@@ -67,11 +67,11 @@ limitsFor capacity small ghost = record { capacity = capacity; smallLimit = near
 unfoldable pub sizingUpTo : ℕ → ℕ → Float → Float → Sized
 unfolding badRatio beyond product lt limitsFor
 sizingUpTo top capacity small ghost =
-    cond (eqb capacity 0) (refused 1)
-    (cond (ltb top capacity) (refused 2)
-    (cond (badRatio small || lt unit small) (refused 3)
-    (cond (badRatio ghost) (refused 4)
-    (cond (beyond top (product capacity ghost)) (refused 5)
+    cond (eqb capacity 0) (refused 1 0)
+    (cond (ltb top capacity) (refused 2 0)
+    (cond (badRatio small || lt unit small) (refused 3 0)
+    (cond (badRatio ghost) (refused 4 0)
+    (cond (beyond top (product capacity ghost)) (refused 5 0)
     (limits (limitsFor capacity small ghost))))))
 
 -- the rule, at the one limit

@@ -43,7 +43,7 @@ abbrev pub createRows : ℕ → List RefusalRow
 createRows bytes = record { when = ltb bytes storeBytes; number = 6; detail = 0 } ∷ []
 
 abbrev pub onSized : ℕ → Sized → Verdict State
-onSized bytes (misfit n) = refused n 0
+onSized bytes (misfit n d) = refused n d
 onSized bytes (limits L) = unless (createRows bytes) (done (emptyAt L) [])
 
 -- settings, and a store of so many bytes: rows 1 to 6

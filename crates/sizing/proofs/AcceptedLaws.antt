@@ -14,9 +14,9 @@ use Rattle.sizing.proofs.ProductsLaws.{small-at-most}
 use Rattle.sizing.proofs.CutLaws.{not-beyond}
 
 -- a test before an answer that is no refusal has failed
-passed : (t : Bool) (n : ℕ) (x : Sized) {L : Limits} → cond t (refused n) x ≡ limits L → (t ≡ false) × (x ≡ limits L)
-passed true n x h = let z : _≡_ {A = ℕ} 0 1 = cc in absurd (omega arith)
-passed false n x h = (refl, h)
+passed : (t : Bool) (n d : ℕ) (x : Sized) {L : Limits} → cond t (refused n d) x ≡ limits L → (t ≡ false) × (x ≡ limits L)
+passed true n d x h = let z : _≡_ {A = ℕ} 0 1 = cc in absurd (omega arith)
+passed false n d x h = (refl, h)
 
 neither : (s t : Bool) → (s || t) ≡ false → (s ≡ false) × (t ≡ false)
 neither true t h = absurd (true≢false h)
@@ -33,11 +33,11 @@ pub record FineUpTo (top capacity : ℕ) (L : Limits) : Type 0 where
 pub accepted-up-to : (top c : ℕ) (s g : Float) {L : Limits} → top ≤ 2 ^ 53 → sizingUpTo top c s g ≡ limits L → FineUpTo top c L
 unfolding sizingUpTo limitsFor
 accepted-up-to top c s g {L} t h =
-    let p1 = passed (eqb c 0) 1 _ h in
-    let p2 = passed (ltb top c) 2 _ (p1 .1) in
-    let p3 = passed (badRatio s || lt unit s) 3 _ (p2 .1) in
-    let p4 = passed (badRatio g) 4 _ (p3 .1) in
-    let p5 = passed (beyond top (product c g)) 5 _ (p4 .1) in
+    let p1 = passed (eqb c 0) 1 0 _ h in
+    let p2 = passed (ltb top c) 2 0 _ (p1 .1) in
+    let p3 = passed (badRatio s || lt unit s) 3 0 _ (p2 .1) in
+    let p4 = passed (badRatio g) 4 0 _ (p3 .1) in
+    let p5 = passed (beyond top (product c g)) 5 0 _ (p4 .1) in
     let e : limitsFor c s g ≡ L = cc in
     let k = neither (badRatio s) (lt unit s) (p3 .0) in
     let C : c ≤ top = ltb-false top c (p2 .0) in

@@ -1,33 +1,22 @@
 -- What the contracts leave open of an answer: nothing. Two answers that stand for the same are the same.
 -- Assumes nothing.
 use mathlib.Core.Path.{_≡_, refl, sym, ap, _∙_}
-use mathlib.Core.Bool.{cond}
-use Prim.Native.Nat.{ℕ}
-use lib.Dec.{eqb}
 use Rattle.rules.specs.Sizing as rules
-use Rattle.sizing.specs.declared.Refusal.{Refusal}
-use Rattle.sizing.specs.declared.Refusal.the-variants.{NoCapacity, CapacityAbove, SmallRatio, GhostRatio, GhostLimit}
+use Rattle.rules.proofs.RefusalsLaws.{turnedBy, turned-back}
 use Rattle.sizing.specs.declared.Sized.{Sized}
 use Rattle.sizing.specs.declared.Sized.the-variants.{Accepted, Refused}
 use Rattle.sizing.specs.declared.Read.{Read}
 use Rattle.sizing.specs.declared.Read.the-variants.{Asked, Bad}
 use Rattle.sizing.specs.Answers.{sizedOf, askedOf}
 
-abbrev reasonOf : ℕ → Refusal
-reasonOf n = cond (eqb n 1) NoCapacity (cond (eqb n 2) CapacityAbove (cond (eqb n 3) SmallRatio (cond (eqb n 4) GhostRatio GhostLimit)))
-
 -- the answer that stands for a thing of the rules
 abbrev backSized : rules.Sized → Sized
 backSized (rules.limits l) = Accepted (record { capacity = l .capacity; «small_limit» = l .smallLimit; «ghost_limit» = l .ghostLimit })
-backSized (rules.refused n) = Refused (reasonOf n)
+backSized (rules.refused n d) = Refused (turnedBy n d)
 
 back-sized : (a : Sized) → backSized (sizedOf a) ≡ a
 back-sized (Accepted l) = refl
-back-sized (Refused NoCapacity) = refl
-back-sized (Refused CapacityAbove) = refl
-back-sized (Refused SmallRatio) = refl
-back-sized (Refused GhostRatio) = refl
-back-sized (Refused GhostLimit) = refl
+back-sized (Refused t) = ap Refused (turned-back t)
 
 pub answer-one : (a b : Sized) → sizedOf a ≡ sizedOf b → a ≡ b
 answer-one a b h = sym (back-sized a) ∙ ap backSized h ∙ back-sized b

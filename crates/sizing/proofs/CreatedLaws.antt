@@ -13,7 +13,7 @@ use Rattle.rules.proofs.VerdictLaws.{Fits, turned}
 use Rattle.sizing.proofs.AcceptedLaws.{accepted-fine}
 
 sized-fits : (bytes : ℕ) (a : Sized) → ((L : Limits) → a ≡ limits L → Fine L) → Fits 0 (onSized bytes a)
-sized-fits bytes (misfit n) h = tt
+sized-fits bytes (misfit n d) h = tt
 sized-fits bytes (limits L) h = turned 0 (ltb bytes storeBytes) _ _ _ (λ e. (empty-sound L (h L refl), omega arith))
 
 pub created-fits : (c : ℕ) (s g : Float) (bytes : ℕ) → Fits 0 (create c s g bytes)

@@ -37,29 +37,29 @@ pub ghost-factors : {top c : ℕ} {s g : Float} → RatiosFit top c s g → Fact
 ghost-factors p = record { exact = omega arith; good = p .ratio }
 
 module _ (top c : ℕ) (s g : Float) where
-  pub is-1 : c ≡ 0 → refused 1 ≡ sizingUpTo top c s g
+  pub is-1 : c ≡ 0 → refused 1 0 ≡ sizingUpTo top c s g
   unfolding sizingUpTo
   is-1 z = simp (eq-eqb c 0 z)
 
-  pub is-2 : (c ≡ 0 → ⊥) → top < c → refused 2 ≡ sizingUpTo top c s g
+  pub is-2 : (c ≡ 0 → ⊥) → top < c → refused 2 0 ≡ sizingUpTo top c s g
   unfolding sizingUpTo
   is-2 n l = simp (ne-eqb c 0 n, lt-ltb top c l)
 
-  pub is-3 : CapacityFits top c → badRatio s ≡ true → refused 3 ≡ sizingUpTo top c s g
+  pub is-3 : CapacityFits top c → badRatio s ≡ true → refused 3 0 ≡ sizingUpTo top c s g
   unfolding sizingUpTo
   is-3 r b = simp (ne-eqb c 0 (r .some), le-ltb top c (r .within), b)
 
-  pub is-3-above : CapacityFits top c → badRatio s ≡ false → lt unit s ≡ true → refused 3 ≡ sizingUpTo top c s g
+  pub is-3-above : CapacityFits top c → badRatio s ≡ false → lt unit s ≡ true → refused 3 0 ≡ sizingUpTo top c s g
   unfolding sizingUpTo
   is-3-above r b l = simp (ne-eqb c 0 (r .some), le-ltb top c (r .within), b, l)
 
-  pub is-4 : SmallFits top c s → badRatio g ≡ true → refused 4 ≡ sizingUpTo top c s g
+  pub is-4 : SmallFits top c s → badRatio g ≡ true → refused 4 0 ≡ sizingUpTo top c s g
   unfolding sizingUpTo
   is-4 p b = simp (ne-eqb c 0 (p .room .some), le-ltb top c (p .room .within), p .ratio, p .most, b)
 
 -- past the tests of the settings, that of the ghost limit is left
 module _ {top c : ℕ} {s g : Float} (p : RatiosFit top c s g) where
-  left : sizingUpTo top c s g ≡ cond (beyond top (product c g)) (refused 5) (limits (limitsFor c s g))
+  left : sizingUpTo top c s g ≡ cond (beyond top (product c g)) (refused 5 0) (limits (limitsFor c s g))
   unfolding sizingUpTo
   left = simp (ne-eqb c 0 (p .small .room .some), le-ltb top c (p .small .room .within), p .small .ratio, p .small .most, p .ratio)
 
@@ -72,7 +72,7 @@ module _ {top c : ℕ} {s g : Float} (p : RatiosFit top c s g) where
       let n = small-at-most f (p .small .most) in
       cut-nearest (product c s) (product-finite f (p .small .most)) (omega arith)
 
-  pub is-5 : top < cut (product c g) → refused 5 ≡ sizingUpTo top c s g
+  pub is-5 : top < cut (product c g) → refused 5 0 ≡ sizingUpTo top c s g
   is-5 l = sym (left ∙ simp (tested ∙ lt-ltb top (cut (product c g)) l))
 
   pub accepted : cut (product c g) ≤ top → limits (record { capacity = c; smallLimit = cut (product c s); ghostLimit = cut (product c g) }) ≡ sizingUpTo top c s g

@@ -1,12 +1,11 @@
 -- What the types of this crate stand for in the rules.
 -- Assumes nothing.
 use Prim.Native.Nat.{ℕ}
+use Rattle.rules.specs.Refusals.{numberOf, detailOf}
 use Rattle.rules.specs.State as state
 use Rattle.rules.specs.Sizing as rules
 use Rattle.sizing.specs.declared.Settings.{Settings}
 use Rattle.sizing.specs.declared.Limits.{Limits}
-use Rattle.sizing.specs.declared.Refusal.{Refusal}
-use Rattle.sizing.specs.declared.Refusal.the-variants.{NoCapacity, CapacityAbove, SmallRatio, GhostRatio, GhostLimit}
 use Rattle.sizing.specs.declared.Sized.{Sized}
 use Rattle.sizing.specs.declared.Sized.the-variants.{Accepted, Refused}
 use Rattle.sizing.specs.declared.Read.{Read}
@@ -16,18 +15,10 @@ use Rattle.sizing.specs.declared.Read.the-variants.{Asked, Bad}
 abbrev pub limitsOf : Limits → state.Limits
 limitsOf l = record { capacity = l .capacity; smallLimit = l .«small_limit»; ghostLimit = l .«ghost_limit» }
 
--- the number in 01
-abbrev pub numberOf : Refusal → ℕ
-numberOf NoCapacity = 1
-numberOf CapacityAbove = 2
-numberOf SmallRatio = 3
-numberOf GhostRatio = 4
-numberOf GhostLimit = 5
-
 -- what an answer of `size` says
 abbrev pub sizedOf : Sized → rules.Sized
 sizedOf (Accepted l) = rules.limits (limitsOf l)
-sizedOf (Refused r) = rules.refused (numberOf r)
+sizedOf (Refused t) = rules.refused (numberOf t) (detailOf t)
 
 -- what settings ask for
 abbrev pub asksOf : Settings → rules.Asked

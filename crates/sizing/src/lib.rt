@@ -8,8 +8,9 @@ ghost use lib.Dec.{T};
 ghost use lib.Ieee.{isNan, binary64, ofBits};
 ghost use Rattle.rules.specs.State.{most};
 ghost use Rattle.rules.specs.Sizing.{badRatio, product, defaultsFor, settingsAt, settingsOf};
-ghost use Rattle.sizing.specs.Answers.{numberOf, sizedOf, sizingOf, asksOf, askedOf};
+ghost use Rattle.sizing.specs.Answers.{sizedOf, sizingOf, asksOf, askedOf};
 ghost use Rattle.sizing.specs.Cut.{Factors, cut};
+use rules::Turned;
 
 pub const DEFAULT_SMALL_RATIO: f64 = 0.1;
 
@@ -34,33 +35,10 @@ pub struct Limits {
     pub ghost_limit: u64,
 }
 
-// Why settings are refused.
-pub enum Refusal {
-    NoCapacity,
-    CapacityAbove,
-    SmallRatio,
-    GhostRatio,
-    GhostLimit,
-}
-
-impl Refusal {
-    // The number that stands for it outside.
-    pub fn number(self) -> u8
-        ensures { λ r. ⌜ r ≡ numberOf self ⌝ }
-    {
-        match self {
-            Refusal::NoCapacity => 1,
-            Refusal::CapacityAbove => 2,
-            Refusal::SmallRatio => 3,
-            Refusal::GhostRatio => 4,
-            Refusal::GhostLimit => 5,
-        }
-    }
-}
-
+// The limits that settings come to, or why they are refused.
 pub enum Sized {
     Accepted(Limits),
-    Refused(Refusal),
+    Refused(Turned),
 }
 
 // What the bytes of a settings record ask for; or they are wrong or too few.
@@ -125,24 +103,24 @@ fn size_up_to(top: u64, s: Settings) -> Sized
     let small_ratio = s.small_ratio;
     let ghost_ratio = s.ghost_ratio;
     if capacity == 0 {
-        return Sized::Refused(Refusal::NoCapacity);
+        return Sized::Refused(Turned::NoCapacity);
     }
     if top < capacity {
-        return Sized::Refused(Refusal::CapacityAbove);
+        return Sized::Refused(Turned::CapacityAbove);
     }
     if bad_ratio(small_ratio) {
-        return Sized::Refused(Refusal::SmallRatio);
+        return Sized::Refused(Turned::SmallRatio);
     }
     if 1.0 < small_ratio {
-        return Sized::Refused(Refusal::SmallRatio);
+        return Sized::Refused(Turned::SmallRatio);
     }
     if bad_ratio(ghost_ratio) {
-        return Sized::Refused(Refusal::GhostRatio);
+        return Sized::Refused(Turned::GhostRatio);
     }
     let small_limit = limit(capacity, small_ratio);
     let ghost_limit = limit(capacity, ghost_ratio);
     if top < ghost_limit {
-        return Sized::Refused(Refusal::GhostLimit);
+        return Sized::Refused(Turned::GhostLimit);
     }
     Sized::Accepted(Limits {
         capacity,

@@ -14,7 +14,7 @@ use Rattle.rules.specs.Records.{Request, GT, PK, RM, IN, EV, CL, Reply, 
 use Rattle.rules.specs.Ghosts.{Removed, removeGhost}
 use Rattle.rules.specs.Eviction.{tell, wanted, back, Evicted, evictIfFull, untouched, Walk}
 use Rattle.rules.specs.Requests.{run, apply, onGet, onPeek, onRemove, onInsert, onNew, onFirst, onSecond, onEvictOne, admits, arrive, hands, firstQueue}
-use Rattle.rules.specs.Ledger.{same, held, handedIn, handedOut, keyOf, clears, Answered, history, Ledger, blank, booked, ledger, Balanced, served, histories}
+use Rattle.rules.specs.Ledger.{same, held, handedIn, handedOut, keyOf, clears, Answered, history, Ledger, blank, opens, booked, ledger, Balanced, served, histories}
 use Rattle.rules.proofs.PartsLaws.{total-append, TailView, pop-law}
 use Rattle.rules.proofs.StateLaws.{push-total, pop-total, put-total, back-total, Places, place-law}
 use Rattle.rules.proofs.EvictionLaws.{Evicts}
@@ -234,9 +234,9 @@ room-insert k v σ w s less = let τ = setGhosts (w .ghosts) σ in calm τ (evic
 
 -- ---- demand 3, put together
 
--- of a state, and all that was asked and answered on the way to it
-pub record Demand3 (σ : State) (h : List Answered) : Type 0 where
-  pub untold : (k v : ℕ) → Balanced k v (ledger k v h blank) σ
+-- of the state that a count starts from, the state now, and all that was asked and answered on the way to it
+pub record Demand3 (σ₀ σ : State) (h : List Answered) : Type 0 where
+  pub untold : (k v : ℕ) → Balanced k v (ledger k v h (opens k v σ₀)) σ
   pub once : (k : ℕ) → places k σ ≤ 1
   pub full : (k v : ℕ) → keyed k σ ≡ 0 → residents σ ≡ σ .limits .capacity → FullInsert k v σ (apply σ (IN k v))
 
@@ -257,21 +257,24 @@ served-ledger k v σ (rs ∷ calls) l z s b =
     rw (ledger-append k v (history σ rs) (histories (run σ rs .state) calls) l)
     (served-ledger k v (run σ rs .state) calls (ledger k v (history σ rs) l) (z .1) (run-sound σ rs (z .0) s) (run-ledger k v σ rs l (z .0) s b))
 
--- from a creation on, through any calls
-pub demand-3 : (L : Limits) (calls : List (List Request)) → Fine L → EachSized calls → Demand3 (served (emptyAt L) calls) (histories (emptyAt L) calls)
-demand-3 L calls f z =
-    let e = empty-sound L f in
-    let s = served-sound (emptyAt L) calls z e in
+-- from any sound state on, through any calls
+pub demand-3-from : (σ : State) (calls : List (List Request)) → Sound σ → EachSized calls → Demand3 σ (served σ calls) (histories σ calls)
+demand-3-from σ calls e z =
+    let s = served-sound σ calls z e in
     record {
-      untold = λ k v. served-ledger k v (emptyAt L) calls blank z e (record { untold = omega arith });
+      untold = λ k v. served-ledger k v σ calls (opens k v σ) z e (record { untold = omega arith });
       once = s .once;
-      full = λ k v. full-insert k v (served (emptyAt L) calls) s;
+      full = λ k v. full-insert k v (served σ calls) s;
     }
 
+-- from a creation on: the ledger opens blank
+pub demand-3 : (L : Limits) (calls : List (List Request)) → Fine L → EachSized calls → Demand3 (emptyAt L) (served (emptyAt L) calls) (histories (emptyAt L) calls)
+demand-3 L calls f z = demand-3-from (emptyAt L) calls (empty-sound L f) z
+
 -- the same of one run of requests
-pub demand-3-run : (L : Limits) (rs : List Request) → Fine L → AllNarrow rs → Demand3 (run (emptyAt L) rs .state) (history (emptyAt L) rs)
+pub demand-3-run : (σ : State) (rs : List Request) → Sound σ → AllNarrow rs → Demand3 σ (run σ rs .state) (history σ rs)
 unfolding served histories
-demand-3-run L rs f z = rw (append-nil (history (emptyAt L) rs)) at (demand-3 L (rs ∷ []) f (z, tt))
+demand-3-run σ rs s z = rw (append-nil (history σ rs)) at (demand-3-from σ (rs ∷ []) s (z, tt))
 
 -- ---- where the requests are cut into calls makes no difference
 

@@ -120,9 +120,13 @@ unfolding walk
 walk-sized s zero i h = tt
 walk-sized s (suc n) i h = turn-sized (walk (readAt s) n) i (readAt s i) (read-sized s i h) (λ after. walk-sized s n after h)
 
+pub parse-sized-from : (s : List ℕ) (i : ℕ) → Bytes s → AllNarrow (parseFrom s i .requests)
+unfolding parseFrom
+parse-sized-from s i h = walk-sized s (length s) i h
+
 pub parse-sized : (s : List ℕ) → Bytes s → AllNarrow (parse s .requests)
-unfolding parse parseFrom
-parse-sized s h = walk-sized s (length s) 0 h
+unfolding parse
+parse-sized s h = parse-sized-from s 0 h
 
 -- ---- reading from a part that starts in the middle is reading further on in the whole
 

@@ -13,7 +13,7 @@ use Rattle.nodes.specs.declared.Shape.{Shape}
 use Rattle.nodes.proofs.NodesLaws.{cols-rest}
 use Rattle.rules.specs.State.{State}
 use Rattle.rules.specs.Requests.{run}
-use Rattle.rules.specs.Bytes.{End, whole, unknownAt, cutAt, Parsed, parse, roomFor, encodeAll}
+use Rattle.rules.specs.Bytes.{End, whole, unknownAt, cutAt, parseFrom, parse, roomFor, encodeAll}
 use Rattle.rules.specs.Verdict.{storeBytes, mostRequestBytes, short, damaged, reads, broken, brokenAt, call}
 use Rattle.wire.specs.declared.Stop.{Stop}
 use Rattle.wire.specs.declared.Stop.the-variants.{Whole, Unknown, Cut}
@@ -24,9 +24,10 @@ use Rattle.store.proofs.HoldsLaws.{held-holds, limits-shown}
 use Rattle.soundness.specs.declared.Checked.{Checked}
 use Rattle.soundness.specs.declared.Checked.the-variants.{Sound as Sound·, Damaged}
 use Rattle.soundness.specs.Checks.{Checks}
-use Rattle.s3_fifo.specs.declared.Ran.{Ran}
-use Rattle.s3_fifo.specs.declared.Ran.the-variants.{Done, ShortStore, DamagedStore, LongRequests, BadRecord, NoRoom}
-use Rattle.s3_fifo.specs.Runs.{Ready, Runs}
+use Rattle.rules.specs.declared.Turned.the-variants.{ShortStore, DamagedStore, LongRequests, BadRecord, NoRoom}
+use Rattle.wire.specs.CarriedOut.{HasRoom}
+use Rattle.s3_fifo.specs.declared.Ran.the-variants.{Done, Refused}
+use Rattle.s3_fifo.specs.Runs.{Runs}
 use Rattle.s3_fifo.specs.Calls.{gave, Settled, Follows, Called}
 
 -- ---- what the survey says of the verdict's rows
@@ -49,16 +50,17 @@ module _ {v : Survey} (q : List ℕ) (g : v ≡ surveyed (length q) (parse q)) w
   pub survey-whole : {t : Stop} → t ≡ v .stop → t ≡ Whole → parse q .end ≡ whole
   survey-whole e h = whole-end (parse q .end) (ap (λ (y : Survey). y .stop) (sym g) ∙ sym e ∙ h)
 
-  pub survey-ready : {t : Stop} → t ≡ v .stop → t ≡ Whole → {p : List ℕ} → v .room ≤ length p → Ready q p
-  survey-ready e h b = record { end-is = survey-whole e h; room = omega (arith, room-is) }
+  pub survey-ready : {p : List ℕ} → v .room ≤ length p → HasRoom (parseFrom q 0 .requests) p 0
+  unfolding parse
+  survey-ready b = record { within = omega arith; room = omega (arith, room-is) }
 
 -- ---- the store is turned away
 
-pub called-short : {s : List ℕ} → length s < storeBytes → (q p : List ℕ) → Called s q p ShortStore s p
+pub called-short : {s : List ℕ} → length s < storeBytes → (q p : List ℕ) → Called s q p (Refused ShortStore) s p
 unfolding call
 called-short h q p = record { store = short; store-is = h; leaves = (refl, refl, refl) }
 
-pub called-damaged : {s : List ℕ} → storeBytes ≤ length s → {r : Checked} → Checks s r → r ≡ Damaged → (q p : List ℕ) → Called s q p DamagedStore s p
+pub called-damaged : {s : List ℕ} → storeBytes ≤ length s → {r : Checked} → Checks s r → r ≡ Damaged → (q p : List ℕ) → Called s q p (Refused DamagedStore) s p
 unfolding call
 called-damaged b c e q p = record { store = damaged; store-is = (b, c .damaged e); leaves = (refl, refl, refl) }
 
@@ -68,13 +70,13 @@ pub checked-held : {s : List ℕ} {r : Checked} {z : Shape} → Checks s r → r
 checked-held {z = z} c e = c .sound z e
 
 module _ {z : Shape} {s : List ℕ} (b : storeBytes ≤ length s) (h : Held z s) (q p : List ℕ) where
-  pub called-long : mostRequestBytes < length q → Called s q p LongRequests s p
+  pub called-long : mostRequestBytes < length q → Called s q p (Refused LongRequests) s p
   unfolding call
   called-long l =
       record { store = reads (stateIn z s); store-is = (b, held-holds h); leaves = rw (lt-ltb mostRequestBytes (length q) l) (refl, refl, refl) }
 
   module _ (l : length q ≤ mostRequestBytes) {v : Survey} (g : v ≡ surveyed (length q) (parse q)) {t : Stop} (e : t ≡ v .stop) where
-    called-bad : (t ≡ Whole → ⊥) → {i : ℕ} → i ≡ v .at → Called s q p (BadRecord i) s p
+    called-bad : (t ≡ Whole → ⊥) → {i : ℕ} → i ≡ v .at → Called s q p (Refused (BadRecord i)) s p
     unfolding call
     called-bad n {i} d =
         let w = broken-end (parse q .end) (length q) (λ k. n (e ∙ ap (λ (y : Survey). y .stop) g ∙ k)) in
@@ -85,14 +87,14 @@ module _ {z : Shape} {s : List ℕ} (b : storeBytes ≤ length s) (h : Held z s)
           leaves = rw (le-ltb mostRequestBytes (length q) l, w .0, o) (refl, refl, refl);
         }
 
-    pub called-unknown : t ≡ Unknown → {i : ℕ} → i ≡ v .at → Called s q p (BadRecord i) s p
+    pub called-unknown : t ≡ Unknown → {i : ℕ} → i ≡ v .at → Called s q p (Refused (BadRecord i)) s p
     called-unknown w d = called-bad (λ k. let y : Unknown ≡ Whole = sym w ∙ k in let n : _≡_ {A = ℕ} 0 1 = cc in omega arith) d
 
-    pub called-cut : t ≡ Cut → {i : ℕ} → i ≡ v .at → Called s q p (BadRecord i) s p
+    pub called-cut : t ≡ Cut → {i : ℕ} → i ≡ v .at → Called s q p (Refused (BadRecord i)) s p
     called-cut w d = called-bad (λ k. let y : Cut ≡ Whole = sym w ∙ k in let n : _≡_ {A = ℕ} 0 1 = cc in omega arith) d
 
     module _ (all : t ≡ Whole) where
-      pub called-room : length p < v .room → {i : ℕ} → i ≡ v .room → Called s q p (NoRoom i) s p
+      pub called-room : length p < v .room → {i : ℕ} → i ≡ v .room → Called s q p (Refused (NoRoom i)) s p
       unfolding call
       called-room k {i} d =
           let w = survey-whole q g e all in
@@ -103,21 +105,21 @@ module _ {z : Shape} {s : List ℕ} (b : storeBytes ≤ length s) (h : Held z s)
             leaves = rw (le-ltb mostRequestBytes (length q) l, w, o, lt-ltb (length p) i (omega arith)) (refl, refl, refl);
           }
 
-      pub called-ran : v .room ≤ length p → {s′ p′ : List ℕ} {n : ℕ} → Runs z s s′ q p p′ n → Called s q p (Done n) s′ p′
-      unfolding call splice
+      pub called-ran : v .room ≤ length p → {s′ p′ : List ℕ} {n : ℕ} → Runs z s s′ (parseFrom q 0 .requests) p p′ 0 n → Called s q p (Done n) s′ p′
+      unfolding call splice parse
       called-ran k {s′} {p′} {n} x =
           let w = survey-whole q g e all in
           let σ′ : State = run (stateIn z s) (parse q .requests) .state in
           let bs : List ℕ = encodeAll (run (stateIn z s) (parse q .requests) .replies) in
-          let y : z ≡ shapeFor (σ′ .limits) = x .held .keeps .shaped ∙ ap shapeFor (sym (limits-shown z s′) ∙ ap (λ (τ : State). τ .limits) (x .state)) in
+          let y : z ≡ shapeFor (σ′ .limits) = x .held .keeps .shaped ∙ ap shapeFor (sym (limits-shown z s′) ∙ ap (λ (τ : State). τ .limits) (x .carried .state)) in
           let u : drop (used z) s′ ≡ drop (used z) s = sym (cols-rest z s′) ∙ x .rest ∙ cols-rest z s in
           record {
             store = reads (stateIn z s);
             store-is = (b, held-holds h);
             leaves =
                 rw (le-ltb mostRequestBytes (length q) l, w, le-ltb (length p) (roomFor (parse q .requests)) (omega (arith, room-is q g))) (
-                  ap (λ (k : ℕ). gave k) (x .count),
-                  record { holds = rw (x .state) at (held-holds (x .held)); surplus = rw y at u; same-length = x .same },
-                  x .replies ∙ ap (λ (k : ℕ). bs ++ drop k p) (zero-add (length bs)),
+                  ap (λ (k : ℕ). gave k) (x .carried .count ∙ zero-add (length bs)),
+                  record { holds = rw (x .carried .state) at (held-holds (x .held)); surplus = rw y at u; same-length = x .same },
+                  x .carried .replies ∙ ap (λ (k : ℕ). bs ++ drop k p) (zero-add (length bs)),
                 );
           }

@@ -22,13 +22,13 @@ use Rattle.rules.proofs.ParseLaws.{parse-sized}
 use Rattle.rules.proofs.RoomLaws.{encode-append}
 use Rattle.rules.proofs.LedgerLaws.{FullInsert, Demand3, demand-3-run, run-append, repliesOf, history-replies}
 use Rattle.sizing.specs.declared.Settings.{Settings}
-use Rattle.sizing.proofs.AcceptedLaws.{accepted-fine}
+use Rattle.sizing.proofs.AcceptedLaws.{accepted-fine, accepted-limits}
 use Rattle.store.specs.Holds.{Holds}
 use Rattle.s3_fifo.specs.declared.Creation.the-variants.{Made}
 use Rattle.s3_fifo.specs.declared.Ran.{Ran}
 use Rattle.s3_fifo.specs.declared.Ran.the-variants.{Done}
 use Rattle.s3_fifo.specs.Calls.{Said, gave, turned, createdSays, ranSays, ReadsAs, Settled, Follows, Created, Called}
-use Rattle.s3_fifo.specs.Chains.{Chain, start, accepted, refused}
+use Rattle.s3_fifo.specs.Chains.{limitsMade, Chain, start, accepted, refused}
 use Rattle.s3_fifo.proofs.OnceLaws.{reads-once}
 
 -- ---- from an answer to the verdict's last word
@@ -38,41 +38,42 @@ gave-not e = let z : _≡_ {A = ℕ} 0 1 = cc in omega arith
 
 -- an answer that is no refusal passed every row
 module _ (n : ℕ) (s s′ p p′ : List ℕ) where
-  row-passed : (t : Bool) (m d : ℕ) (v : Verdict) → Follows (cond t (turnedBy m d) v) (gave n) s s′ p p′ → Follows v (gave n) s s′ p p′
+  row-passed : (t : Bool) (m d : ℕ) (v : Verdict State) → Follows (cond t (turnedBy m d) v) (gave n) s s′ p p′ → Follows v (gave n) s s′ p p′
   row-passed true m d v h = absurd (gave-not (h .0))
   row-passed false m d v h = h
 
-  rows-passed : (rows : List RefusalRow) (v : Verdict) → Follows (unless rows v) (gave n) s s′ p p′ → Follows v (gave n) s s′ p p′
+  rows-passed : (rows : List RefusalRow) (v : Verdict State) → Follows (unless rows v) (gave n) s s′ p p′ → Follows v (gave n) s s′ p p′
   rows-passed [] v h = h
   rows-passed (r ∷ rows) v h = rows-passed rows v (row-passed (r .when) (r .number) (r .detail) (unless rows v) h)
 
 -- one that is leaves the store as it was
-refused-same : (v : Verdict) (n d : ℕ) (a : Said) (s s′ p p′ : List ℕ) → Follows v a s s′ p p′ → a ≡ turned n d → s′ ≡ s
+refused-same : (v : Verdict State) (n d : ℕ) (a : Said) (s s′ p p′ : List ℕ) → Follows v a s s′ p p′ → a ≡ turned n d → s′ ≡ s
 refused-same (turnedBy m e) n d a s s′ p p′ h r = h .1
 refused-same (done σ bs) n d a s s′ p p′ h r = absurd (gave-not (sym (h .0) ∙ r))
 
 -- ---- creation
 
--- the limits, and that the store is long enough
-pub record Begun (s s′ : List ℕ) : Type 0 where
-  pub limits-are : Limits
-  pub fine : Fine limits-are
-  pub holds : Holds s′ (emptyAt limits-are)
+-- the store holds the empty state of the settings' limits, and is long enough
+pub record Begun (L : Limits) (s′ : List ℕ) : Type 0 where
+  pub fine : Fine L
+  pub holds : Holds s′ (emptyAt L)
   pub long : storeBytes ≤ length s′
 
-begin : (a : Sized) {s s′ : List ℕ} → ((L : Limits) → a ≡ limits L → Fine L) → Follows (onSized (length s) a) (gave 0) s s′ [] [] → Begun s s′
-begin (misfit n) f h = absurd (gave-not (h .0))
-begin (limits L) {s} {s′} f h = pick (ltb (length s) storeBytes) refl h
+begin : (a : Sized) (s s′ : List ℕ) {M : Limits} → ((L : Limits) → a ≡ limits L → Fine L × (L ≡ M)) → Follows (onSized (length s) a) (gave 0) s s′ [] [] → Begun M s′
+begin (misfit n d) s s′ f h = absurd (gave-not (h .0))
+begin (limits L) s s′ {M} f h = subst (λ (K : Limits). Begun K s′) (f L refl .1) (pick (ltb (length s) storeBytes) refl h)
   where
-    pick : (t : Bool) → ltb (length s) storeBytes ≡ t → Follows (cond t (turnedBy 6 0) (done (emptyAt L) [])) (gave 0) s s′ [] [] → Begun s s′
+    pick : (t : Bool) → ltb (length s) storeBytes ≡ t → Follows (cond t (turnedBy 6 0) (done (emptyAt L) [])) (gave 0) s s′ [] [] → Begun L s′
     pick true e g = absurd (gave-not (g .0))
-    pick false e g =
-        record { limits-are = L; fine = f L refl; holds = g .1 .holds; long = omega (arith, ltb-false (length s) storeBytes e, g .1 .same-length) }
+    pick false e g = record { fine = f L refl .0; holds = g .1 .holds; long = omega (arith, ltb-false (length s) storeBytes e, g .1 .same-length) }
 
-pub begun : {settings : Settings} {s s′ : List ℕ} → Created settings s Made s′ → Begun s s′
+pub begun : {settings : Settings} {s s′ : List ℕ} → Created settings s Made s′ → Begun (limitsMade settings) s′
 unfolding create
-begun {settings} c =
-    begin (sizing (settings .capacity) (settings .«small_ratio») (settings .«ghost_ratio»)) (λ L e. accepted-fine (settings .capacity) (settings .«small_ratio») (settings .«ghost_ratio») e) (c .leaves)
+begun {settings} {s} {s′} c =
+    let z = settings .capacity in
+    let a = settings .«small_ratio» in
+    let g = settings .«ghost_ratio» in
+    begin (sizing z a g) s s′ (λ L e. (accepted-fine z a g e, accepted-limits z a g e)) (c .leaves)
 
 -- ---- a call that was accepted
 
@@ -97,7 +98,7 @@ served {s} {q} {p} {s′} {p′} {n} {σ} h b c =
 -- ---- what an accepted call leaves never counts as damaged
 
 pub created-intact : {settings : Settings} {s s′ : List ℕ} → Created settings s Made s′ → ReadsAs s′ damaged → ⊥
-created-intact c d = let b = begun c in d .1 (emptyAt (b .limits-are)) (b .holds)
+created-intact {settings} c d = d .1 (emptyAt (limitsMade settings)) (begun c .holds)
 
 intact : (s q p s′ p′ : List ℕ) (n : ℕ) (x : Reads) → ReadsAs s x → Follows (call x q (length p)) (gave n) s s′ p p′ → ReadsAs s′ damaged → ⊥
 unfolding call
@@ -111,26 +112,24 @@ called-intact {s} {q} {p} {s′} {p′} {n} c d = intact s q p s′ p′ n (c .s
 
 -- ---- the chain
 
-pub record Grown (s : List ℕ) (rs : List Request) (bs : List ℕ) : Type 0 where
-  pub limits-are : Limits
-  pub fine : Fine limits-are
+pub record Grown (s : List ℕ) (σ₀ : State) (rs : List Request) (bs : List ℕ) : Type 0 where
+  pub sound : Sound σ₀
   pub sized : AllNarrow rs
-  pub holds : Holds s (run (emptyAt limits-are) rs .state)
-  pub told : bs ≡ encodeAll (run (emptyAt limits-are) rs .replies)
+  pub holds : Holds s (run σ₀ rs .state)
+  pub told : bs ≡ encodeAll (run σ₀ rs .replies)
   pub long : storeBytes ≤ length s
 
 sized-append : (a b : List Request) → AllNarrow a → AllNarrow b → AllNarrow (a ++ b)
 sized-append [] b h g = g
 sized-append (r ∷ a) b h g = (h .0, sized-append a b (h .1) g)
 
-grow : {s q p s′ p′ : List ℕ} {n : ℕ} {rs : List Request} {bs : List ℕ} → Grown s rs bs → Bytes q → Called s q p (Done n) s′ p′ → Grown s′ (rs ++ parse q .requests) (bs ++ take n p′)
-grow {s} {q} {p} {s′} {p′} {n} {rs} {bs} g b c =
-    let σ₀ : State = emptyAt (g .limits-are) in
+grow : {s q p s′ p′ : List ℕ} {n : ℕ} {σ₀ : State} {rs : List Request} {bs : List ℕ} → Grown s σ₀ rs bs → Bytes q → Called s q p (Done n) s′ p′
+    → Grown s′ σ₀ (rs ++ parse q .requests) (bs ++ take n p′)
+grow {s} {q} {p} {s′} {p′} {n} {σ₀} {rs} {bs} g b c =
     let v = served (g .holds) (g .long) c in
     let e : run σ₀ (rs ++ parse q .requests) ≡ tellFirst (run σ₀ rs .replies) (run (run σ₀ rs .state) (parse q .requests)) = run-append σ₀ rs (parse q .requests) in
     record {
-      limits-are = g .limits-are;
-      fine = g .fine;
+      sound = g .sound;
       sized = sized-append rs (parse q .requests) (g .sized) (parse-sized q b);
       holds = subst (Holds s′) (ap (λ (o : Outcome). o .state) (sym e)) (v .0 .holds);
       told =
@@ -140,38 +139,38 @@ grow {s} {q} {p} {s′} {p′} {n} {rs} {bs} g b c =
       long = v .1;
     }
 
-pub grown : {s : List ℕ} {rs : List Request} {bs : List ℕ} → Chain s rs bs → Grown s rs bs
+pub grown : {s : List ℕ} {σ₀ : State} {rs : List Request} {bs : List ℕ} → Chain s σ₀ rs bs → Grown s σ₀ rs bs
 unfolding run encodeAll
-grown (start c) = let b = begun c in record { limits-are = b .limits-are; fine = b .fine; sized = tt; holds = b .holds; told = refl; long = b .long }
+grown (start {settings = settings} c) =
+    let b = begun c in record { sound = empty-sound (limitsMade settings) (b .fine); sized = tt; holds = b .holds; told = refl; long = b .long }
 grown (accepted h b c) = grow (grown h) b c
-grown (refused {s = s} {q = q} {p = p} {s′ = s′} {p′ = p′} {r = r} {rs = rs} {bs = bs} n d h c e) =
-    subst (λ (x : List ℕ). Grown x rs bs) (sym (refused-same (call (c .store) q (length p)) n d (ranSays r) s s′ p p′ (c .leaves) e)) (grown h)
+grown (refused {s = s} {q = q} {p = p} {s′ = s′} {p′ = p′} {r = r} {σ₀ = σ₀} {rs = rs} {bs = bs} n d h c e) =
+    subst (λ (x : List ℕ). Grown x σ₀ rs bs) (sym (refused-same (call (c .store) q (length p)) n d (ranSays r) s s′ p p′ (c .leaves) e)) (grown h)
 
--- demand 3: of the state that the store holds after any such chain, and of all that was asked and answered
-pub record Kept (s : List ℕ) (rs : List Request) (bs : List ℕ) : Type 0 where
+-- demand 3: of the state that a chain started from, the state that the store holds after it, and all that was asked and answered
+pub record Kept (s : List ℕ) (σ₀ : State) (rs : List Request) (bs : List ℕ) : Type 0 where
   pub state : State
   pub holds : Holds s state
   pub seen : List Answered
   pub asked : map (λ a. a .request) seen ≡ rs
   pub told : encodeAll (repliesOf seen) ≡ bs
-  pub demand : Demand3 state seen
+  pub demand : Demand3 σ₀ state seen
 
 history-asked : (σ : State) (rs : List Request) → map (λ a. a .request) (history σ rs) ≡ rs
 unfolding history
 history-asked σ [] = refl
 history-asked σ (r ∷ rs) = ap (λ l. r ∷ l) (history-asked _ rs)
 
-pub chain-keeps : {s : List ℕ} {rs : List Request} {bs : List ℕ} → Chain s rs bs → Kept s rs bs
-chain-keeps {s} {rs} {bs} c =
+pub chain-keeps : {s : List ℕ} {σ₀ : State} {rs : List Request} {bs : List ℕ} → Chain s σ₀ rs bs → Kept s σ₀ rs bs
+chain-keeps {s} {σ₀} {rs} {bs} c =
     let g = grown c in
-    let σ₀ : State = emptyAt (g .limits-are) in
     record {
       state = run σ₀ rs .state;
       holds = g .holds;
       seen = history σ₀ rs;
       asked = history-asked σ₀ rs;
       told = ap encodeAll (history-replies σ₀ rs) ∙ sym (g .told);
-      demand = demand-3-run (g .limits-are) rs (g .fine) (g .sized);
+      demand = demand-3-run σ₀ rs (g .sound) (g .sized);
     }
 
 -- ---- the full insert of demand 3, wherever in a chain it stands, also in the middle of a call
@@ -181,11 +180,11 @@ sized-front [] b h = tt
 sized-front (r ∷ a) b h = (h .0, sized-front a b (h .1))
 
 -- after the requests a, on the state before it, and with the requests b after it: what the insert did, and where its replies stand
-pub record FullWithin (L : Limits) (a : List Request) (k v : ℕ) (b : List Request) (bs : List ℕ) : Type 0 where
+pub record FullWithin (σ₀ : State) (a : List Request) (k v : ℕ) (b : List Request) (bs : List ℕ) : Type 0 where
   pub before : State
-  pub before-is : before ≡ run (emptyAt L) a .state
+  pub before-is : before ≡ run σ₀ a .state
   pub full : keyed k before ≡ 0 → residents before ≡ before .limits .capacity → FullInsert k v before (apply before (IN k v))
-  pub told : bs ≡ encodeAll (run (emptyAt L) a .replies) ++ (encodeAll (apply before (IN k v) .replies) ++ encodeAll (run (apply before (IN k v) .state) b .replies))
+  pub told : bs ≡ encodeAll (run σ₀ a .replies) ++ (encodeAll (apply before (IN k v) .replies) ++ encodeAll (run (apply before (IN k v) .state) b .replies))
 
 told-within : (σ : State) (a : List Request) (r : Request) (b : List Request) → let τ = run σ a .state in
     encodeAll (run σ (a ++ r ∷ b) .replies) ≡ encodeAll (run σ a .replies) ++ (encodeAll (apply τ r .replies) ++ encodeAll (run (apply τ r .state) b .replies))
@@ -196,15 +195,14 @@ told-within σ a r b =
     ∙ encode-append (run σ a .replies) (apply τ r .replies ++ run (apply τ r .state) b .replies)
     ∙ ap (λ (l : List ℕ). encodeAll (run σ a .replies) ++ l) (encode-append (apply τ r .replies) (run (apply τ r .state) b .replies))
 
-pub full-within : (a : List Request) (k v : ℕ) (b : List Request) {s bs : List ℕ} {rs : List Request} (c : Chain s rs bs) → rs ≡ a ++ IN k v ∷ b
-    → FullWithin (grown c .limits-are) a k v b bs
-full-within a k v b {s} {bs} {rs} c e =
+pub full-within : (a : List Request) (k v : ℕ) (b : List Request) {s bs : List ℕ} {σ₀ : State} {rs : List Request} → Chain s σ₀ rs bs
+    → rs ≡ a ++ IN k v ∷ b → FullWithin σ₀ a k v b bs
+full-within a k v b {s} {bs} {σ₀} {rs} c e =
     let g = grown c in
-    let σ₀ : State = emptyAt (g .limits-are) in
     let z : AllNarrow (a ++ IN k v ∷ b) = subst AllNarrow e (g .sized) in
     record {
       before = run σ₀ a .state;
       before-is = refl;
-      full = demand-3-run (g .limits-are) a (g .fine) (sized-front a (IN k v ∷ b) z) .full k v;
+      full = demand-3-run σ₀ a (g .sound) (sized-front a (IN k v ∷ b) z) .full k v;
       told = g .told ∙ ap (λ (l : List Request). encodeAll (run σ₀ l .replies)) e ∙ told-within σ₀ a (IN k v) b;
     }

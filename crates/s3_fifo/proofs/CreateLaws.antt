@@ -14,16 +14,17 @@ use Rattle.rules.specs.Sizing.{limits, refused as misfit, sizing}
 use Rattle.rules.specs.Verdict.{storeBytes, create, onSized}
 use Rattle.sizing.specs.declared.Settings.{Settings}
 use Rattle.sizing.specs.declared.Limits.{Limits}
-use Rattle.sizing.specs.declared.Refusal.{Refusal}
+use Rattle.rules.specs.declared.Turned.{Turned}
+use Rattle.rules.specs.declared.Turned.the-variants.{ShortStore}
 use Rattle.sizing.specs.declared.Sized.{Sized}
 use Rattle.sizing.specs.declared.Sized.the-variants.{Accepted, Refused as Misfit}
-use Rattle.sizing.specs.Answers.{limitsOf, numberOf, sizedOf, sizingOf}
+use Rattle.sizing.specs.Answers.{limitsOf, sizedOf, sizingOf}
 use Rattle.sizing.proofs.AcceptedLaws.{accepted-fine}
 use Rattle.store.specs.Holds.{shapeFor}
 use Rattle.store.specs.Created.{SetUp as CreatedIn}
 use Rattle.store.proofs.CreatedLaws.{created-holds}
 use Rattle.s3_fifo.specs.declared.Creation.{Creation}
-use Rattle.s3_fifo.specs.declared.Creation.the-variants.{Made, Refused, ShortStore}
+use Rattle.s3_fifo.specs.declared.Creation.the-variants.{Made, Refused}
 use Rattle.s3_fifo.specs.Calls.{Said, Settled, Follows, Created, createdSays}
 
 module _ (settings : Settings) {r : Sized} (e : sizedOf r ≡ sizingOf most settings) where
@@ -31,7 +32,7 @@ module _ (settings : Settings) {r : Sized} (e : sizedOf r ≡ sizingOf most sett
   sized-as h = sym e ∙ ap sizedOf h
 
   -- refused by sizing
-  pub create-refused : {refusal : Refusal} → r ≡ Misfit refusal → (s : List ℕ) → Created settings s (Refused refusal) s
+  pub create-refused : {t : Turned} → r ≡ Misfit t → (s : List ℕ) → Created settings s (Refused t) s
   unfolding create
   create-refused h s =
       record { leaves = rw (sized-as h) (refl, refl, refl) }
@@ -40,7 +41,7 @@ module _ (settings : Settings) {r : Sized} (e : sizedOf r ≡ sizingOf most sett
     pub create-fine : Fine (limitsOf l)
     create-fine = accepted-fine (settings .capacity) (settings .«small_ratio») (settings .«ghost_ratio») (sized-as h)
 
-    pub create-short : {s : List ℕ} → length s < storeBytes → Created settings s ShortStore s
+    pub create-short : {s : List ℕ} → length s < storeBytes → Created settings s (Refused ShortStore) s
     unfolding create
     create-short {s} b = record { leaves = rw (sized-as h, lt-ltb (length s) storeBytes b) (refl, refl, refl) }
 

@@ -2,56 +2,43 @@
 -- all that stands behind it.
 -- Assumes nothing.
 use mathlib.Core.Path.{_≡_, refl, sym, ap, _∙_, subst}
-use mathlib.Core.Bool.{Bool, true, false, cond}
 use mathlib.Core.List.{List, [], _∷_, _++_}
 use Prim.Native.Nat.{ℕ, _≤_, _<_}
 use native.Mathlib.Omega.{arith}
-use lib.Dec.{eqb}
 use lib.ListN.{length, drop}
 use Rattle.nodes.specs.Nodes.{used}
 use Rattle.rules.specs.State.{State}
 use Rattle.rules.specs.Verdict.{Verdict, refused, done, storeBytes, create, Reads, short, damaged, reads, call}
 use Rattle.sizing.specs.declared.Settings.{Settings}
-use Rattle.sizing.specs.declared.Refusal.{Refusal}
-use Rattle.sizing.specs.declared.Refusal.the-variants.{NoCapacity, CapacityAbove, SmallRatio, GhostRatio, GhostLimit}
+use Rattle.rules.proofs.RefusalsLaws.{turnedBy, turned-back}
 use Rattle.store.specs.Holds.{shapeFor, Holds}
 use Rattle.store.proofs.HoldsLaws.{holds-once}
 use Rattle.s3_fifo.specs.declared.Creation.{Creation}
-use Rattle.s3_fifo.specs.declared.Creation.the-variants.{Made, Refused, ShortStore as Short·}
+use Rattle.s3_fifo.specs.declared.Creation.the-variants.{Made, Refused as NotMade}
 use Rattle.s3_fifo.specs.declared.Ran.{Ran}
-use Rattle.s3_fifo.specs.declared.Ran.the-variants.{Done, ShortStore, DamagedStore, LongRequests, BadRecord, NoRoom}
+use Rattle.s3_fifo.specs.declared.Ran.the-variants.{Done, Refused}
 use Rattle.s3_fifo.specs.Calls.{Said, gave, turned, createdSays, ranSays, ReadsAs, Settled, Follows, Created, Called}
 
 -- ---- the answer is known by what it says
 
 abbrev ranBy : Said → Ran
 ranBy (gave n) = Done n
-ranBy (turned n d) = cond (eqb n 6) ShortStore (cond (eqb n 7) DamagedStore (cond (eqb n 8) LongRequests (cond (eqb n 9) (BadRecord d) (NoRoom d))))
+ranBy (turned n d) = Refused (turnedBy n d)
 
 ran-back : (r : Ran) → ranBy (ranSays r) ≡ r
 ran-back (Done n) = refl
-ran-back ShortStore = refl
-ran-back DamagedStore = refl
-ran-back LongRequests = refl
-ran-back (BadRecord at) = refl
-ran-back (NoRoom room) = refl
+ran-back (Refused t) = ap Refused (turned-back t)
 
 pub ran-once : (r t : Ran) → ranSays r ≡ ranSays t → r ≡ t
 ran-once r t e = sym (ran-back r) ∙ ap ranBy e ∙ ran-back t
 
 abbrev createdBy : Said → Creation
 createdBy (gave n) = Made
-createdBy (turned n d) =
-    cond (eqb n 6) Short· (Refused (cond (eqb n 1) NoCapacity (cond (eqb n 2) CapacityAbove (cond (eqb n 3) SmallRatio (cond (eqb n 4) GhostRatio GhostLimit)))))
+createdBy (turned n d) = NotMade (turnedBy n d)
 
 created-back : (r : Creation) → createdBy (createdSays r) ≡ r
 created-back Made = refl
-created-back Short· = refl
-created-back (Refused NoCapacity) = refl
-created-back (Refused CapacityAbove) = refl
-created-back (Refused SmallRatio) = refl
-created-back (Refused GhostRatio) = refl
-created-back (Refused GhostLimit) = refl
+created-back (NotMade t) = ap NotMade (turned-back t)
 
 pub creation-once : (r t : Creation) → createdSays r ≡ createdSays t → r ≡ t
 creation-once r t e = sym (created-back r) ∙ ap createdBy e ∙ created-back t
@@ -90,7 +77,7 @@ settled-agrees {s} {s₁} {s₂} {τ} a b =
     }
 
 -- what one verdict leaves is one thing
-follows-once : (v : Verdict) (a b : Said) (s s₁ s₂ p p₁ p₂ : List ℕ) → Follows v a s s₁ p p₁ → Follows v b s s₂ p p₂ → (a ≡ b) × (p₁ ≡ p₂) × Agrees s₁ s₂
+follows-once : (v : Verdict State) (a b : Said) (s s₁ s₂ p p₁ p₂ : List ℕ) → Follows v a s s₁ p p₁ → Follows v b s s₂ p p₂ → (a ≡ b) × (p₁ ≡ p₂) × Agrees s₁ s₂
 follows-once (refused n d) a b s s₁ s₂ p p₁ p₂ h g =
     (h .0 ∙ sym (g .0), h .2 ∙ sym (g .2), subst (λ (x : List ℕ). Agrees s₁ x) (h .1 ∙ sym (g .1)) (agrees-self s₁))
 follows-once (done σ bs) a b s s₁ s₂ p p₁ p₂ h g = (h .0 ∙ sym (g .0), h .2 ∙ sym (g .2), settled-agrees (h .1) (g .1))

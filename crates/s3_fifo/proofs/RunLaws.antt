@@ -1,23 +1,18 @@
 -- The laws of the run: requests are read, carried out and answered one after the other, and what is still to come completes the whole.
 -- Assumes nothing.
-use mathlib.Core.Path.{_≡_, refl, sym, ap, ap₂, _∙_}
+use mathlib.Core.Path.{_≡_, refl, sym, ap, ap₂, _∙_, subst}
 use mathlib.Core.List.{List, [], _∷_, _++_, append-nil}
-use Prim.Native.Nat.{ℕ, zero, suc, _+_, _-_, _≤_, _<_}
+use Prim.Native.Nat.{ℕ, _+_, _-_, _≤_, _<_}
 use native.Mathlib.Omega.{arith}
-use native.Mathlib.Nat.{zero-add, add-zero}
+use native.Mathlib.Nat.{add-zero}
 use lib.ListN.{length, take, drop, length-append, take-append-drop}
-use lib.Seq.{length-take-le}
 use Rattle.cells.specs.Cells.{Bytes}
 use Rattle.nodes.specs.Nodes.{Rest, cols}
 use Rattle.nodes.specs.declared.Shape.{Shape}
-use Rattle.rules.specs.Parts.{total}
-use Rattle.rules.specs.State.{State, Sound}
-use Rattle.rules.specs.Records.{Request, Reply, ES, EM, Narrow, AllNarrow, Outcome}
-use Rattle.rules.specs.Requests.{apply, run}
-use Rattle.rules.specs.Bytes.{encode, encodeAll, roomOf, roomFor, Reading, ask, strange, short, end, readAt, End, whole, unknownAt, cutAt, Parsed, with, onReading, parseFrom, parse}
-use Rattle.rules.proofs.SoundLaws.{apply-sound}
-use Rattle.rules.proofs.RoomLaws.{encode-length, encode-append, apply-size}
-use Rattle.rules.proofs.ParseLaws.{parse-step, parse-sized, read-goes}
+use Rattle.rules.specs.Records.{Request, Reply, ES, EM}
+use Rattle.rules.specs.Bytes.{encode, encodeAll, Reading, ask, readAt, Parsed, onReading, parseFrom}
+use Rattle.rules.proofs.RoomLaws.{encode-append}
+use Rattle.rules.proofs.ParseLaws.{parse-step, parse-sized-from, read-goes}
 use Rattle.rules.specs.declared.GuestBlock.{GuestBlock}
 use Rattle.rules.specs.declared.PhysicalBlock.{PhysicalBlock}
 use Rattle.wire.specs.declared.Reply.{Reply as Reply·}
@@ -25,14 +20,16 @@ use Rattle.wire.specs.declared.Request.{Request as Request·}
 use Rattle.wire.specs.declared.Record.{Record}
 use Rattle.wire.specs.declared.Record.the-variants.{Ask, Unknown, Cut, End as Over}
 use Rattle.wire.specs.Wire.{asked, told, meaning, splice, Wrote}
-use Rattle.wire.proofs.SpliceLaws.{splice-length, wrote-wrote, wrote-length, Partly, partly-none, partly-more, partly-all}
+use Rattle.wire.specs.CarriedOut.{HasRoom}
+use Rattle.wire.proofs.SpliceLaws.{wrote-wrote}
+use Rattle.wire.proofs.ProgressLaws.{Progress, progress-start, progress-fits, progress-sound, progress-next, progress-end}
 use Rattle.evict.specs.declared.Pushed.{Pushed}
 use Rattle.evict.specs.declared.Pushed.the-variants.{Nothing, FromSmall, FromMain}
 use Rattle.evict.specs.Evicts.{pushedOf}
 use Rattle.requests.specs.declared.Spoken.{Spoken}
 use Rattle.requests.specs.Answers.{spokenOf, Answers}
 use Rattle.store.specs.Holds.{stateIn, Held}
-use Rattle.s3_fifo.specs.Runs.{Ready, Runs}
+use Rattle.s3_fifo.specs.Runs.{Runs}
 
 -- ---- replies one after the other
 
@@ -83,36 +80,18 @@ spoken-wrote {p} {p₁} {p₂} {i} {m} {k} w r h a b = rw (spoken-bytes w r) (wr
 
 -- ---- the run
 
--- what is still to come from an offset on
-abbrev from : State → List ℕ → ℕ → Outcome
-from σ q i = run σ (parseFrom q i .requests)
-
--- the requests before the offset are carried out, and their replies written
-pub record Midway (z : Shape) (s₀ s q p₀ p : List ℕ) (at out : ℕ) : Type 0 where
+-- from the offsets at₀ and out₀ on: the records before `at` are carried out, and their replies stand before `out`
+pub record Midway (z : Shape) (s₀ s q : List ℕ) (at₀ : ℕ) (p₀ p : List ℕ) (out₀ at out : ℕ) : Type 0 where
   pub held : Held z s
-  pub end-is : parseFrom q at .end ≡ whole
-  pub sized : AllNarrow (parseFrom q at .requests)
-  pub ready : roomFor (parseFrom q at .requests) ≤ length p - out
-  pub part : Partly p₀ p out (encodeAll (from (stateIn z s) q at .replies)) (encodeAll (from (stateIn z s₀) q 0 .replies))
-  pub state : from (stateIn z s) q at .state ≡ from (stateIn z s₀) q 0 .state
+  pub progress : Progress (stateIn z s₀) (stateIn z s) (parseFrom q at₀ .requests) (parseFrom q at .requests) p₀ p out₀ out
   pub rest : cols z s Rest ≡ cols z s₀ Rest
   pub same : length s ≡ length s₀
 
-pub midway-start : {z : Shape} {s q p : List ℕ} → Held z s → Ready q p → Bytes q → Midway z s s q p p 0 0
-unfolding parse
-midway-start {z} {s} {q} {p} h y b =
-    record {
-      held = h;
-      end-is = y .end-is;
-      sized = parse-sized q b;
-      ready = omega (arith, y .room);
-      part = partly-none p (encodeAll (from (stateIn z s) q 0 .replies));
-      state = refl;
-      rest = refl;
-      same = refl;
-    }
+pub midway-start : {z : Shape} {s q : List ℕ} {at : ℕ} {p : List ℕ} {out : ℕ} → Held z s → HasRoom (parseFrom q at .requests) p out → Bytes q
+    → Midway z s s q at p p out at out
+midway-start {q = q} {at = at} h y b = record { held = h; progress = progress-start (h .sound) (parse-sized-from q at b) y; rest = refl; same = refl }
 
-module _ {z : Shape} {s₀ s q p₀ p : List ℕ} {at out : ℕ} (m : Midway z s₀ s q p₀ p at out) where
+module _ {z : Shape} {s₀ s q : List ℕ} {at₀ : ℕ} {p₀ p : List ℕ} {out₀ at out : ℕ} (m : Midway z s₀ s q at₀ p₀ p out₀ at out) where
   pub midway-held : Held z s
   midway-held = m .held
 
@@ -121,95 +100,45 @@ module _ {z : Shape} {s₀ s q p₀ p : List ℕ} {at out : ℕ} (m : Midway z s
     e : ask (asked k) after ≡ readAt q at
     e = ap meaning (sym is) ∙ read
 
-    more : parseFrom q at ≡ with (asked k) (parseFrom q after)
-    more = parse-step q at ∙ ap (onReading (parseFrom q) at) (sym e)
+    more : parseFrom q at .requests ≡ asked k ∷ parseFrom q after .requests
+    more = ap (λ (x : Parsed Request). x .requests) (parse-step q at ∙ ap (onReading (parseFrom q) at) (sym e))
 
-    r-sized : Narrow (asked k)
-    r-sized = rw more at (m .sized) .0
+    here : Progress (stateIn z s₀) (stateIn z s) (parseFrom q at₀ .requests) (asked k ∷ parseFrom q after .requests) p₀ p out₀ out
+    here = subst (λ (l : List Request). Progress (stateIn z s₀) (stateIn z s) (parseFrom q at₀ .requests) l p₀ p out₀ out) more (m .progress)
 
     pub midway-less : length q - after < length q - at
     midway-less = omega (arith, read-goes q at (asked k) after (sym e))
 
-    now-ready : roomOf (asked k) + roomFor (parseFrom q after .requests) ≤ length p - out
-    unfolding roomFor
-    now-ready = rw more at (m .ready)
-
-    now-run : from (stateIn z s) q at ≡ run (stateIn z s) (asked k ∷ parseFrom q after .requests)
-    now-run = ap (λ x. run (stateIn z s) (x .requests)) more
-
     module _ {s₁ : List ℕ} {w : Spoken} (a : Answers z s s₁ (asked k) w) where
       -- its replies fit
       pub midway-fits : out + length (encodeAll (spokenOf w)) ≤ length p
-      midway-fits =
-          omega (arith, ap length (ap encodeAll (a .replies)), encode-length (apply (stateIn z s) (asked k) .replies), apply-size (stateIn z s) (asked k) (m .held .sound), now-ready, m .part .within)
+      midway-fits = progress-fits here (a .replies)
 
-      now-held : Held z s₁
-      now-held = record { keeps = a .becomes .keeps; sound = rw (a .becomes .state) (apply-sound (stateIn z s) (asked k) r-sized (m .held .sound)) }
-
-      now-state : run (stateIn z s) (asked k ∷ parseFrom q after .requests) .state ≡ from (stateIn z s₁) q after .state
-      unfolding run
-      now-state = rw (a .becomes .state)
-
-      now-replies : encodeAll (run (stateIn z s) (asked k ∷ parseFrom q after .requests) .replies) ≡ encodeAll (spokenOf w) ++ encodeAll (from (stateIn z s₁) q after .replies)
-      unfolding run
-      now-replies =
-          encode-append (apply (stateIn z s) (asked k) .replies) (run (apply (stateIn z s) (asked k) .state) (parseFrom q after .requests) .replies)
-          ∙ ap₂ (λ (l : List Reply) (τ : State). encodeAll l ++ encodeAll (from τ q after .replies)) (sym (a .replies)) (sym (a .becomes .state))
-
-      pub midway-next : {p₁ : List ℕ} {out₁ : ℕ} → Wrote p out (encodeAll (spokenOf w)) p₁ out₁ → length s₁ ≡ length s → Midway z s₀ s₁ q p₀ p₁ after out₁
-      midway-next {p₁} {out₁} b n =
-          let f = midway-fits in
-          let g : Partly p₀ p out (encodeAll (spokenOf w) ++ encodeAll (from (stateIn z s₁) q after .replies)) (encodeAll (from (stateIn z s₀) q 0 .replies)) =
-          rw (← now-replies, ← now-run) (m .part) in
-          let h = partly-more (encodeAll (spokenOf w)) f g in
+      pub midway-next : {p₁ : List ℕ} {out₁ : ℕ} → Wrote p out (encodeAll (spokenOf w)) p₁ out₁ → length s₁ ≡ length s
+          → Midway z s₀ s₁ q at₀ p₀ p₁ out₀ after out₁
+      midway-next b n =
           record {
-            held = now-held;
-            end-is = rw more at (m .end-is);
-            sized = rw more at (m .sized) .1;
-            ready =
-                omega (
-                  arith,
-                  ap length (ap encodeAll (a .replies)),
-                  encode-length (apply (stateIn z s) (asked k) .replies),
-                  apply-size (stateIn z s) (asked k) (m .held .sound),
-                  now-ready,
-                  b .end,
-                  wrote-length b f,
-                );
-            part = rw (b .bytes, b .end) h;
-            state = sym now-state ∙ ap (λ o. o .state) (sym now-run) ∙ m .state;
+            held = record { keeps = a .becomes .keeps; sound = rw (a .becomes .state) (progress-sound here (a .replies)) };
+            progress = progress-next here (a .replies) (a .becomes .state) b;
             rest = a .becomes .rest ∙ m .rest;
             same = n ∙ m .same;
           }
 
-  -- all is read
-  pub midway-end : {x : Record} → meaning x ≡ readAt q at → x ≡ Over → Runs z s₀ s q p₀ p out
-  unfolding run encodeAll parse
-  midway-end read is =
-      let e : end ≡ readAt q at = ap meaning (sym is) ∙ read in
-      let none : parseFrom q at ≡ record { requests = []; end = whole } = parse-step q at ∙ ap (onReading (parseFrom q) at) (sym e) in
-      let t : from (stateIn z s) q at ≡ record { state = stateIn z s; replies = [] } = ap (λ x. run (stateIn z s) (x .requests)) none in
-      let g : Partly p₀ p out [] (encodeAll (from (stateIn z s₀) q 0 .replies)) = rw t at (m .part) in
-      let a = partly-all g in
+  -- nothing more is read, whatever ends the records
+  ended : {r : Reading Request} → r ≡ readAt q at → onReading (parseFrom q) at r .requests ≡ [] → Runs z s₀ s (parseFrom q at₀ .requests) p₀ p out₀ out
+  ended e n =
       record {
         held = m .held;
-        state = ap (λ o. o .state) (sym t) ∙ m .state;
+        carried = progress-end (m .progress) (ap (λ (x : Parsed Request). x .requests) (parse-step q at ∙ ap (onReading (parseFrom q) at) (sym e)) ∙ n);
         rest = m .rest;
-        replies = a .0;
-        count = a .1;
         same = m .same;
       }
 
-  -- nothing else is met
-  no-break : (i : End) → parseFrom q at .end ≡ i → (i ≡ whole → ⊥) → ⊥
-  no-break i e n = n (sym e ∙ m .end-is)
+  pub midway-end : {x : Record} → meaning x ≡ readAt q at → x ≡ Over → Runs z s₀ s (parseFrom q at₀ .requests) p₀ p out₀ out
+  midway-end read is = ended (ap meaning (sym is) ∙ read) refl
 
-  pub midway-unknown : {x : Record} → meaning x ≡ readAt q at → x ≡ Unknown → Runs z s₀ s q p₀ p out
-  midway-unknown read is =
-      let e : strange ≡ readAt q at = ap meaning (sym is) ∙ read in
-      absurd (no-break (unknownAt at) (ap (λ (x : Parsed). x .end) (parse-step q at ∙ ap (onReading (parseFrom q) at) (sym e))) (λ n. let b : _≡_ {A = ℕ} 0 1 = cc in omega arith))
+  pub midway-unknown : {x : Record} → meaning x ≡ readAt q at → x ≡ Unknown → Runs z s₀ s (parseFrom q at₀ .requests) p₀ p out₀ out
+  midway-unknown read is = ended (ap meaning (sym is) ∙ read) refl
 
-  pub midway-cut : {x : Record} → meaning x ≡ readAt q at → x ≡ Cut → Runs z s₀ s q p₀ p out
-  midway-cut read is =
-      let e : short ≡ readAt q at = ap meaning (sym is) ∙ read in
-      absurd (no-break (cutAt at) (ap (λ (x : Parsed). x .end) (parse-step q at ∙ ap (onReading (parseFrom q) at) (sym e))) (λ n. let b : _≡_ {A = ℕ} 0 1 = cc in omega arith))
+  pub midway-cut : {x : Record} → meaning x ≡ readAt q at → x ≡ Cut → Runs z s₀ s (parseFrom q at₀ .requests) p₀ p out₀ out
+  midway-cut read is = ended (ap meaning (sym is) ∙ read) refl

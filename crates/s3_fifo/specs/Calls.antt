@@ -6,14 +6,14 @@ use Prim.Native.Nat.{ℕ, _≤_, _<_}
 use lib.ListN.{length, drop}
 use Rattle.nodes.specs.Nodes.{used}
 use Rattle.rules.specs.State.{State}
+use Rattle.rules.specs.Refusals.{numberOf, detailOf}
 use Rattle.rules.specs.Verdict.{Verdict, refused, done, storeBytes, create, Reads, short, damaged, reads, call}
 use Rattle.sizing.specs.declared.Settings.{Settings}
-use Rattle.sizing.specs.Answers.{numberOf}
 use Rattle.store.specs.Holds.{shapeFor, Holds}
 use Rattle.s3_fifo.specs.declared.Creation.{Creation}
-use Rattle.s3_fifo.specs.declared.Creation.the-variants.{Made, Refused, ShortStore as ShortStore·}
-use Rattle.s3_fifo.specs.declared.Ran.{Ran as Ran·}
-use Rattle.s3_fifo.specs.declared.Ran.the-variants.{Done, ShortStore, DamagedStore, LongRequests, BadRecord, NoRoom}
+use Rattle.s3_fifo.specs.declared.Creation.the-variants.{Made, Refused as NotMade}
+use Rattle.s3_fifo.specs.declared.Ran.{Ran}
+use Rattle.s3_fifo.specs.declared.Ran.the-variants.{Done, Refused}
 
 -- an answer in the paper's terms: so many reply bytes; or turned away by a number, with a detail
 pub data Said : Type 0 where
@@ -22,16 +22,11 @@ pub data Said : Type 0 where
 
 abbrev pub createdSays : Creation → Said
 createdSays Made = gave 0
-createdSays (Refused r) = turned (numberOf r) 0
-createdSays ShortStore· = turned 6 0
+createdSays (NotMade t) = turned (numberOf t) (detailOf t)
 
-abbrev pub ranSays : Ran· → Said
+abbrev pub ranSays : Ran → Said
 ranSays (Done n) = gave n
-ranSays ShortStore = turned 6 0
-ranSays DamagedStore = turned 7 0
-ranSays LongRequests = turned 8 0
-ranSays (BadRecord at) = turned 9 at
-ranSays (NoRoom room) = turned 10 room
+ranSays (Refused t) = turned (numberOf t) (detailOf t)
 
 -- what the bytes of a store read as: too short, no sound state, or the state that they hold
 abbrev pub ReadsAs : List ℕ → Reads → Type 0
@@ -46,7 +41,7 @@ pub record Settled (s s′ : List ℕ) (σ : State) : Type 0 where
   pub same-length : length s′ ≡ length s
 
 -- what a verdict leaves: a refusal changes no byte; otherwise the replies stand in front of what was there
-abbrev pub Follows : Verdict → Said → List ℕ → List ℕ → List ℕ → List ℕ → Type 0
+abbrev pub Follows : Verdict State → Said → List ℕ → List ℕ → List ℕ → List ℕ → Type 0
 Follows (refused n d) a s s′ p p′ = (a ≡ turned n d) × (s′ ≡ s) × (p′ ≡ p)
 Follows (done σ bs) a s s′ p p′ = (a ≡ gave (length bs)) × Settled s s′ σ × (p′ ≡ bs ++ drop (length bs) p)
 
@@ -55,7 +50,7 @@ pub record Created (settings : Settings) (s : List ℕ) (r : Creation) (s′ : L
   pub leaves : Follows (create (settings .capacity) (settings .«small_ratio») (settings .«ghost_ratio») (length s)) (createdSays r) s s′ [] []
 
 -- a call: store, requests and replies before; the answer, the store and the replies after
-pub record Called (s q p : List ℕ) (r : Ran·) (s′ p′ : List ℕ) : Type 0 where
+pub record Called (s q p : List ℕ) (r : Ran) (s′ p′ : List ℕ) : Type 0 where
   pub store : Reads
   pub store-is : ReadsAs s store
   pub leaves : Follows (call store q (length p)) (ranSays r) s s′ p p′

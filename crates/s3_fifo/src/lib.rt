@@ -3,18 +3,21 @@
 ghost use mathlib.Core.Path.{_≡_};
 ghost use Prim.Native.Nat.{_+_, _≤_};
 ghost use lib.ListN.{length};
-ghost use Rattle.rules.specs.Bytes.{encodeAll};
+ghost use Rattle.rules.specs.Bytes.{encodeAll, parseFrom};
+ghost use Rattle.rules.specs.Sizing.{defaultsFor};
 ghost use Rattle.rules.specs.Verdict.{storeBytes};
+ghost use Rattle.sizing.specs.Answers.{asksOf};
 ghost use Rattle.wire.specs.Wire.{Wrote};
+ghost use Rattle.wire.specs.CarriedOut.{HasRoom};
 ghost use Rattle.evict.specs.Evicts.{pushedOf};
 ghost use Rattle.requests.specs.Answers.{spokenOf};
 ghost use Rattle.store.specs.Holds.{Held};
-ghost use Rattle.s3_fifo.specs.Runs.{Ready, Runs};
+ghost use Rattle.s3_fifo.specs.Runs.{Runs};
 ghost use Rattle.s3_fifo.specs.Calls.{Created, Called};
 use evict::Pushed;
 use nodes::Shape;
 use requests::Spoken;
-use sizing::Refusal;
+use rules::Turned;
 use sizing::Settings;
 use sizing::Sized;
 use soundness::Checked;
@@ -25,18 +28,13 @@ use wire::Stop;
 // What a creation answers.
 pub enum Creation {
     Made,
-    Refused(Refusal),
-    ShortStore,
+    Refused(Turned),
 }
 
 // What a call answers: the number of reply bytes, or why it was turned away.
 pub enum Ran {
     Done(usize),
-    ShortStore,
-    DamagedStore,
-    LongRequests,
-    BadRecord(usize),
-    NoRoom(usize),
+    Refused(Turned),
 }
 
 // Writes the reply of a pair that was pushed out.
@@ -62,25 +60,32 @@ fn put_spoken(replies: &mut [u8], at: usize, spoken: Spoken) -> usize
     wire::put_reply(replies, middle, closing)
 }
 
-// Carries out all requests in order, where they are well formed and their replies have room.
-fn run_all(store: &mut [u8], z: Shape, requests: &[u8], replies: &mut [u8]) -> usize
+// Carries out the requests from `at` on, in order, up to the end or to a record that is none, and writes their replies from `out` on.
+fn run_from(
+    store: &mut [u8],
+    z: Shape,
+    requests: &[u8],
+    at: usize,
+    replies: &mut [u8],
+    out: usize,
+) -> usize
     requires { ⌜ Held z (now store) ⌝ }
-    requires { ⌜ Ready (now requests) (now replies) ⌝ }
-    ensures { λ r. ⌜ Runs z (now (store .entry)) (now (store .exit)) (now (requests .entry)) (now (replies .entry)) (now (replies .exit)) r ⌝ }
+    requires { ⌜ HasRoom (parseFrom (now requests) at .requests) (now replies) out ⌝ }
+    ensures { λ r. ⌜ Runs z (now (store .entry)) (now (store .exit)) (parseFrom (now (requests .entry)) at .requests) (now (replies .entry)) (now (replies .exit)) out r ⌝ }
 {
-    let mut at = 0;
-    let mut out = 0;
+    let mut from = at;
+    let mut end = out;
     loop {
-        let read = wire::next(requests, at);
+        let read = wire::next(requests, from);
         match read {
             Record::Ask(q, after) => {
                 let spoken = requests::apply(store, z, q);
-                out = put_spoken(replies, out, spoken);
-                at = after;
+                end = put_spoken(replies, end, spoken);
+                from = after;
             }
-            Record::Unknown => return out,
-            Record::Cut => return out,
-            Record::End => return out,
+            Record::Unknown => return end,
+            Record::Cut => return end,
+            Record::End => return end,
         }
     }
 }
@@ -91,19 +96,19 @@ fn run_sound(store: &mut [u8], z: Shape, requests: &[u8], replies: &mut [u8]) ->
     ensures { λ r. ⌜ Called (now (store .entry)) (now (requests .entry)) (now (replies .entry)) r (now (store .exit)) (now (replies .exit)) ⌝ }
 {
     if rules::MOST_REQUEST_BYTES < requests.len() {
-        return Ran::LongRequests;
+        return Ran::Refused(Turned::LongRequests);
     }
     let survey = wire::survey_all(requests);
     let stop = survey.stop;
     match stop {
-        Stop::Unknown => Ran::BadRecord(survey.at),
-        Stop::Cut => Ran::BadRecord(survey.at),
+        Stop::Unknown => Ran::Refused(Turned::BadRecord(survey.at as u64)),
+        Stop::Cut => Ran::Refused(Turned::BadRecord(survey.at as u64)),
         Stop::Whole => {
             let room = survey.room;
             if replies.len() < room {
-                return Ran::NoRoom(room);
+                return Ran::Refused(Turned::NoRoom(room as u64));
             }
-            let out = run_all(store, z, requests, replies);
+            let out = run_from(store, z, requests, 0, replies, 0);
             Ran::Done(out)
         }
     }
@@ -122,16 +127,30 @@ impl S3FifoCache {
     // The one fixed size of a store.
     pub const STORE_BYTES: usize = 57600;
 
+    // The version of the interface. It stands here alone: header, wrapper and programs take it from here (tools/version).
+    pub const VERSION: [u8; 5] = *b"0.2.0";
+
+    // The settings that a capacity alone stands for.
+    pub fn settings(capacity: u64) -> Settings
+        ensures { λ r. ⌜ asksOf r ≡ defaultsFor capacity ⌝ }
+    {
+        Settings {
+            capacity,
+            small_ratio: S3FifoCache::DEFAULT_SMALL_RATIO,
+            ghost_ratio: S3FifoCache::DEFAULT_GHOST_RATIO,
+        }
+    }
+
     // Creates a cache in the store, whatever bytes it held before.
     pub fn create(settings: Settings, store: &mut [u8]) -> Creation
         ensures { λ r. ⌜ Created settings (now (store .entry)) r (now (store .exit)) ⌝ }
     {
         let sized = sizing::size(settings);
         match sized {
-            Sized::Refused(refusal) => Creation::Refused(refusal),
+            Sized::Refused(turned) => Creation::Refused(turned),
             Sized::Accepted(limits) => {
                 if store.len() < S3FifoCache::STORE_BYTES {
-                    return Creation::ShortStore;
+                    return Creation::Refused(Turned::ShortStore);
                 }
                 store::set_up(store, limits);
                 Creation::Made
@@ -144,11 +163,11 @@ impl S3FifoCache {
         ensures { λ r. ⌜ Called (now (store .entry)) (now (requests .entry)) (now (replies .entry)) r (now (store .exit)) (now (replies .exit)) ⌝ }
     {
         if store.len() < S3FifoCache::STORE_BYTES {
-            return Ran::ShortStore;
+            return Ran::Refused(Turned::ShortStore);
         }
         let checked = soundness::check(store);
         match checked {
-            Checked::Damaged => Ran::DamagedStore,
+            Checked::Damaged => Ran::Refused(Turned::DamagedStore),
             Checked::Sound(z) => run_sound(store, z, requests, replies),
         }
     }

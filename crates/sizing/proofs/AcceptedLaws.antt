@@ -47,6 +47,18 @@ accepted-up-to top c s g {L} t h =
     let gm = not-beyond top (product c g) (p5 .0) .1 in
     rw (sym e) (record { same = refl; some-room = omega arith; capacity-fits = C; small-fits = sm; ghost-fits = gm })
 
+-- and they are what the settings stand for
+pub accepted-limits : (c : ℕ) (s g : Float) {L : Limits} → sizing c s g ≡ limits L → L ≡ limitsFor c s g
+unfolding sizingUpTo
+accepted-limits c s g {L} h =
+    let p1 = passed (eqb c 0) 1 0 _ h in
+    let p2 = passed (ltb most c) 2 0 _ (p1 .1) in
+    let p3 = passed (badRatio s || lt unit s) 3 0 _ (p2 .1) in
+    let p4 = passed (badRatio g) 4 0 _ (p3 .1) in
+    let p5 = passed (beyond most (product c g)) 5 0 _ (p4 .1) in
+    let e : limitsFor c s g ≡ L = cc in
+    sym e
+
 pub accepted-fine : (c : ℕ) (s g : Float) {L : Limits} → sizing c s g ≡ limits L → Fine L
 accepted-fine c s g h =
     let f = accepted-up-to most c s g (omega arith) h in

@@ -1,20 +1,20 @@
--- `s3_fifo::run_all` meets its contract.
+-- `s3_fifo::run_from` meets its contract.
 -- Assumes nothing.
 use borrow.Author.Needs.{needs}
 use Rattle.s3_fifo.proofs.RunLaws.{Midway, midway-start, midway-held, midway-fits, midway-less, midway-next, midway-end, midway-unknown, midway-cut}
 use Prim.Native.Nat.{_-_}
 use lib.ListN.{length}
-use Rattle.s3_fifo.proofs.run_all.Statement.{statement}
-use Rattle.s3_fifo.proofs.run_all.Tie as tie
+use Rattle.s3_fifo.proofs.run_from.Statement.{statement}
+use Rattle.s3_fifo.proofs.run_from.Tie as tie
 
 abbrev Inv-loop : tie.InvT-loop
-Inv-loop store₀ z requests replies₀ at₀ out₀ store replies at out = Midway z store₀ store requests replies₀ replies at out
+Inv-loop store₀ z requests at replies₀ out from₀ end₀ store replies from end = Midway z store₀ store requests at replies₀ replies out from end
 
 abbrev μ-loop : tie.MeasureT-loop
-μ-loop store₀ z requests replies₀ at₀ out₀ store replies at out = length requests - at
+μ-loop store₀ z requests at replies₀ out from₀ end₀ store replies from end = length requests - from
 
-pub run-all-spec : {M : Type 1} → statement M
-run-all-spec =
+pub run-from-spec : {M : Type 1} → statement M
+run-from-spec =
     tie.close
     (tie.spec
     Inv-loop

@@ -11,14 +11,15 @@ use mir.Syntax.{w64}
 use mir.Val.{SFits, toZ, ofZ}
 use mir.Facts.{toZ-pos, toZ-ofZ}
 use Rattle.rules.specs.Verdict.{Verdict, refused, done, call}
-use Rattle.sizing.specs.declared.Refusal.{Refusal}
-use Rattle.sizing.specs.Answers.{numberOf}
+use Rattle.rules.specs.declared.Turned.{Turned}
+use Rattle.rules.specs.State.{State}
+use Rattle.rules.specs.Refusals.{numberOf, detailOf}
 use Rattle.s3_fifo.specs.declared.Creation.{Creation}
-use Rattle.s3_fifo.specs.declared.Creation.the-variants.{Refused}
+use Rattle.s3_fifo.specs.declared.Creation.the-variants.{Refused as NotMade}
 use Rattle.s3_fifo.specs.declared.Ran.{Ran}
-use Rattle.s3_fifo.specs.declared.Ran.the-variants.{Done}
+use Rattle.s3_fifo.specs.declared.Ran.the-variants.{Done, Refused}
 use Rattle.s3_fifo.specs.Calls.{Said, gave, turned, createdSays, ranSays, Follows, Called}
-use Rattle.mapcache.specs.Codes.{codeOf, FitsIn, Fits}
+use Rattle.mapcache.specs.Codes.{codeOf, detailIn, FitsIn, Fits}
 
 zero-minus : (n : ℕ) → n < 2 ^ 63 → toZ w64 0 -ℤ toZ w64 n ≡ negℤ (pos n)
 zero-minus n h = ap (λ (z : ℤ). toZ w64 0 -ℤ z) (toZ-pos w64 h) ∙ +ℤ-idl (negℤ (pos n))
@@ -34,7 +35,7 @@ pub minus-is : (n : ℕ) → n < 2 ^ 63 → toZ w64 (ofZ w64 (toZ w64 0 -ℤ toZ
 minus-is n h = toZ-ofZ (minus-fits n h) ∙ zero-minus n h
 
 -- the reply bytes stand in the reply buffer
-follows-fit : (v : Verdict) (a : Said) (s s′ p p′ : List ℕ) → Follows v a s s′ p p′ → length p′ < 2 ^ 63 → FitsIn a
+follows-fit : (v : Verdict State) (a : Said) (s s′ p p′ : List ℕ) → Follows v a s s′ p p′ → length p′ < 2 ^ 63 → FitsIn a
 follows-fit (refused n d) a s s′ p p′ l h = subst FitsIn (sym (l .0)) tt
 follows-fit (done σ bs) a s s′ p p′ l h =
     let long = ap length (l .2) ∙ length-append bs (drop (length bs) p) in subst FitsIn (sym (l .0)) (omega arith)
@@ -48,5 +49,15 @@ done-fits e h = record { sfits = subst Fits e h }
 pub done-code : {r : Ran} {n : ℕ} → r ≡ Done n → Fits r → toZ w64 (ofZ w64 (pos n)) ≡ codeOf (ranSays r)
 done-code e h = toZ-ofZ (done-fits e h) ∙ sym (ap (λ (r : Ran). codeOf (ranSays r)) e)
 
-pub refused-code : {r : Creation} {x : Refusal} {n : ℕ} {z : ℤ} → r ≡ Refused x → n ≡ numberOf x → z ≡ negℤ (pos n) → z ≡ codeOf (createdSays r)
-refused-code e en ez = ez ∙ ap (λ (n : ℕ). negℤ (pos n)) en ∙ sym (ap (λ (r : Creation). codeOf (createdSays r)) e)
+-- a refusal's number, and its detail
+turned-code : {a : Said} (t : Turned) {n : ℕ} {z : ℤ} → a ≡ turned (numberOf t) (detailOf t) → n ≡ numberOf t → z ≡ negℤ (pos n) → z ≡ codeOf a
+turned-code t e en ez = ez ∙ ap (λ (n : ℕ). negℤ (pos n)) en ∙ sym (ap codeOf e)
+
+pub created-turned : {r : Creation} {t : Turned} {n : ℕ} {z : ℤ} → r ≡ NotMade t → n ≡ numberOf t → z ≡ negℤ (pos n) → z ≡ codeOf (createdSays r)
+created-turned {t = t} e en ez = turned-code t (ap createdSays e) en ez
+
+pub ran-turned : {r : Ran} {t : Turned} {n : ℕ} {z : ℤ} → r ≡ Refused t → n ≡ numberOf t → z ≡ negℤ (pos n) → z ≡ codeOf (ranSays r)
+ran-turned {t = t} e en ez = turned-code t (ap ranSays e) en ez
+
+pub ran-detail : {r : Ran} {t : Turned} {d : ℕ} → r ≡ Refused t → d ≡ detailOf t → d ≡ detailIn (ranSays r)
+ran-detail e ed = ed ∙ sym (ap (λ (r : Ran). detailIn (ranSays r)) e)

@@ -16,9 +16,9 @@ codeOf (gave n) = pos n
 codeOf (turned n d) = negℤ (pos n)
 
 -- the refusal's detail, 0 otherwise
-abbrev pub detailOf : Said → ℕ
-detailOf (gave n) = 0
-detailOf (turned n d) = d
+abbrev pub detailIn : Said → ℕ
+detailIn (gave n) = 0
+detailIn (turned n d) = d
 
 -- the reply bytes fit an `i64`, as they fit the reply buffer
 abbrev pub FitsIn : Said → Type 0
@@ -39,4 +39,4 @@ pub record CalledAs (s q p : List ℕ) (code : ℤ) (detail : ℕ) (s′ p′ : 
   pub answer : Ran
   pub called : Called s q p answer s′ p′
   pub code-is : code ≡ codeOf (ranSays answer)
-  pub detail-is : detail ≡ detailOf (ranSays answer)
+  pub detail-is : detail ≡ detailIn (ranSays answer)

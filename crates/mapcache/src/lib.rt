@@ -4,7 +4,7 @@ ghost use mathlib.Core.Path.{_≡_};
 ghost use lib.IntN.{pos, negℤ};
 ghost use Rattle.rules.specs.Verdict.{storeBytes};
 ghost use Rattle.s3_fifo.specs.Calls.{createdSays, ranSays};
-ghost use Rattle.mapcache.specs.Codes.{codeOf, detailOf, Fits, CreatedAs, CalledAs};
+ghost use Rattle.mapcache.specs.Codes.{codeOf, detailIn, Fits, CreatedAs, CalledAs};
 use s3_fifo::Creation;
 use s3_fifo::Ran;
 use s3_fifo::S3FifoCache;
@@ -23,8 +23,7 @@ fn created_code(created: Creation) -> i64
 {
     match created {
         Creation::Made => 0,
-        Creation::Refused(refusal) => minus(refusal.number()),
-        Creation::ShortStore => -6,
+        Creation::Refused(turned) => minus(turned.number()),
     }
 }
 
@@ -35,25 +34,17 @@ fn ran_code(ran: Ran) -> i64
 {
     match ran {
         Ran::Done(n) => n as i64,
-        Ran::ShortStore => -6,
-        Ran::DamagedStore => -7,
-        Ran::LongRequests => -8,
-        Ran::BadRecord(_) => -9,
-        Ran::NoRoom(_) => -10,
+        Ran::Refused(turned) => minus(turned.number()),
     }
 }
 
 // The detail that goes with it.
 fn ran_detail(ran: Ran) -> u64
-    ensures { λ r. ⌜ r ≡ detailOf (ranSays ran) ⌝ }
+    ensures { λ r. ⌜ r ≡ detailIn (ranSays ran) ⌝ }
 {
     match ran {
         Ran::Done(_) => 0,
-        Ran::ShortStore => 0,
-        Ran::DamagedStore => 0,
-        Ran::LongRequests => 0,
-        Ran::BadRecord(at) => at as u64,
-        Ran::NoRoom(room) => room as u64,
+        Ran::Refused(turned) => turned.detail(),
     }
 }
 

@@ -3,11 +3,13 @@
 // A case: lengths of input and output, 4 bytes each; the input, which is settings and requests; the output, which is their replies on a fresh store.
 // A step: what `Step` has, in 32 bytes; input; output. All steps of a file work on one store.
 ghost use mathlib.Core.Path.{_≡_};
-ghost use Prim.Native.Nat.{_≤_};
+ghost use Prim.Native.Nat.{_≤_, _^_};
 ghost use lib.ListN.{length};
 ghost use Rattle.s3_fifo.specs.Calls.{gave, turned, createdSays, ranSays};
+ghost use Rattle.rules.specs.Refusals.{numberOf, detailOf};
 ghost use Rattle.recorded.specs.Told.{toldOf};
 use libc::STDOUT_FILENO;
+use rules::Turned;
 use s3_fifo::Creation;
 use s3_fifo::Ran;
 use s3_fifo::S3FifoCache;
@@ -64,12 +66,23 @@ fn accepted(count: usize) -> Told
     }
 }
 
-fn refused(number: u8, detail: usize) -> Told
-    ensures { λ r. ⌜ r ≡ toldOf (turned number detail) ⌝ }
+fn refused(why: Turned) -> Told
+    ensures { λ r. ⌜ r ≡ toldOf (turned (numberOf why) (detailOf why)) ⌝ }
 {
     Told {
-        number: number as u64,
-        detail: detail as u64,
+        number: why.number() as u64,
+        detail: why.detail(),
+        count: 0,
+    }
+}
+
+// An answer that no call gives and no step names, whose numbers have 4 bytes: the step asks for more bytes than the buffers have.
+fn nothing_done() -> Told
+    ensures { λ r. ⌜ 2 ^ 32 ≤ r .number ⌝ }
+{
+    Told {
+        number: u64::MAX,
+        detail: 0,
         count: 0,
     }
 }
@@ -79,8 +92,7 @@ fn created_told(created: Creation) -> Told
 {
     match created {
         Creation::Made => accepted(0),
-        Creation::Refused(refusal) => refused(refusal.number(), 0),
-        Creation::ShortStore => refused(6, 0),
+        Creation::Refused(why) => refused(why),
     }
 }
 
@@ -89,11 +101,7 @@ fn ran_told(ran: Ran) -> Told
 {
     match ran {
         Ran::Done(n) => accepted(n),
-        Ran::ShortStore => refused(6, 0),
-        Ran::DamagedStore => refused(7, 0),
-        Ran::LongRequests => refused(8, 0),
-        Ran::BadRecord(at) => refused(9, at),
-        Ran::NoRoom(room) => refused(10, room),
+        Ran::Refused(why) => refused(why),
     }
 }
 
@@ -162,7 +170,7 @@ fn create_in(store: &mut [u8], n: usize, settings: Settings) -> Told {
         let created = S3FifoCache::create(settings, &mut store[0..n]);
         created_told(created)
     } else {
-        refused(0, n)
+        nothing_done()
     }
 }
 
@@ -172,7 +180,7 @@ fn run_in(store: &mut [u8], n: usize, requests: &[u8], out: &mut [u8], m: usize)
         let ran = S3FifoCache::run(&mut store[0..n], requests, &mut out[0..m]);
         ran_told(ran)
     } else {
-        refused(0, n)
+        nothing_done()
     }
 }
 

@@ -16,16 +16,18 @@ use Rattle.rules.specs.Sizing.{Asked, asks, noSettings, settingsBytes, settings
 use Rattle.rules.specs.Verdict.{Verdict, refused, done, storeBytes, create, Reads, reads, call}
 use Rattle.rules.proofs.TripLaws.{bytes-length}
 use Rattle.sizing.specs.declared.Settings.{Settings}
-use Rattle.sizing.specs.declared.Refusal.{Refusal}
+use Rattle.rules.specs.declared.Turned.{Turned}
+use Rattle.rules.specs.Refusals.{numberOf, detailOf}
 use Rattle.sizing.specs.declared.Read.{Read}
 use Rattle.sizing.specs.declared.Read.the-variants.{Asked as Asked·, Bad}
-use Rattle.sizing.specs.Answers.{numberOf, asksOf, askedOf}
+use Rattle.sizing.specs.Answers.{asksOf, askedOf}
 use Rattle.wire.specs.Wire.{splice, Wrote}
 use Rattle.wire.proofs.SpliceLaws.{mark-splice, put-splice, wrote-wrote, wrote-length}
 use Rattle.store.specs.Holds.{Holds}
 use Rattle.s3_fifo.specs.declared.Creation.{Creation}
-use Rattle.s3_fifo.specs.declared.Creation.the-variants.{Made, Refused, ShortStore}
+use Rattle.s3_fifo.specs.declared.Creation.the-variants.{Made, Refused}
 use Rattle.s3_fifo.specs.declared.Ran.{Ran}
+use Rattle.s3_fifo.specs.declared.Ran.the-variants.{Done, Refused as NotRun}
 use Rattle.s3_fifo.specs.Calls.{Said, gave, turned, createdSays, ranSays, ReadsAs, Settled, Follows, Created, Called}
 use Rattle.s3_fifo.proofs.OnceLaws.{reads-once}
 use Rattle.replay.specs.Output.{noRecord, noBytes, printed, onCreated, onAsked, outputFor, Finished}
@@ -49,9 +51,13 @@ unfolding bytesOf
 refusal-wrote {p} n d h e₁ e₂ e₃ e₄ =
     number-wrote 8 d (number-wrote 1 n (number-wrote 1 79 (number-wrote 1 78 (nothing-wrote p) e₁ (omega arith)) e₂ (omega arith)) e₃ (omega arith)) e₄ h
 
+-- its number and detail by what they are equal to
+pub record-as : {p p′ : List ℕ} {r n d m e : ℕ} → Wrote p 0 (noRecord n d) p′ r → n ≡ m → d ≡ e → Wrote p 0 (noRecord m e) p′ r
+record-as w en ed = rw (← en, ← ed) w
+
 -- ---- what a call leaves
 
-finish-shown : (v : Verdict) (a : Said) (s s′ p p′ p″ : List ℕ) (r : ℕ) → Follows v a s s′ p p′ → Finished a p′ p″ r → Wrote p 0 (printed v) p″ r
+finish-shown : (v : Verdict State) (a : Said) (s s′ p p′ p″ : List ℕ) (r : ℕ) → Follows v a s s′ p p′ → Finished a p′ p″ r → Wrote p 0 (printed v) p″ r
 unfolding splice
 finish-shown (refused n d) a s s′ p p′ p″ r l f =
     let f′ : Finished (turned n d) p′ p″ r = subst (λ (x : Said). Finished x p′ p″ r) (l .0) f in
@@ -60,42 +66,45 @@ finish-shown (done σ bs) a s s′ p p′ p″ r l f =
     let f′ : Finished (gave (length bs)) p′ p″ r = subst (λ (x : Said). Finished x p′ p″ r) (l .0) f in
     record { bytes = f′ .1 ∙ l .2 ∙ ap (λ (k : ℕ). bs ++ drop k p) (sym (zero-add (length bs))); end = f′ .0 ∙ sym (zero-add (length bs)) }
 
+-- a refused call's record, and an accepted one's replies as they stand
+pub finished-refused : {ran : Ran} {t : Turned} {p p′ : List ℕ} {r : ℕ} → ran ≡ NotRun t → Wrote p 0 (noRecord (numberOf t) (detailOf t)) p′ r
+    → Finished (ranSays ran) p p′ r
+finished-refused e w = rw e w
+
+pub finished-done : {ran : Ran} {n : ℕ} (p : List ℕ) → ran ≡ Done n → Finished (ranSays ran) p p n
+finished-done p e = rw e (refl, refl)
+
 -- ---- what a creation leaves
 
-turned-refused : (v : Verdict) (n d : ℕ) (s s′ p p′ : List ℕ) → Follows v (turned n d) s s′ p p′ → v ≡ refused n d
+turned-refused : (v : Verdict State) (n d : ℕ) (s s′ p p′ : List ℕ) → Follows v (turned n d) s s′ p p′ → v ≡ refused n d
 turned-refused (refused m e) n d s s′ p p′ l = let h = l .0 in cc
 turned-refused (done σ bs) n d s s′ p p′ l = let h = l .0 in let z : _≡_ {A = ℕ} 0 1 = cc in absurd (omega arith)
 
 -- the state that was set up, and that the store holds it
-record SetUp (v : Verdict) (s s′ : List ℕ) : Type 0 where
+record MadeOf (v : Verdict State) (s s′ : List ℕ) : Type 0 where
   state : State
   nothing : List ℕ
   is : v ≡ done state nothing
   settled : Settled s s′ state
 
-gave-done : (v : Verdict) (n : ℕ) (s s′ p p′ : List ℕ) → Follows v (gave n) s s′ p p′ → SetUp v s s′
+gave-done : (v : Verdict State) (n : ℕ) (s s′ p p′ : List ℕ) → Follows v (gave n) s s′ p p′ → MadeOf v s s′
 gave-done (refused m e) n s s′ p p′ l = let h = l .0 in let z : _≡_ {A = ℕ} 0 1 = cc in absurd (omega arith)
 gave-done (done σ bs) n s s′ p p′ l = record { state = σ; nothing = bs; is = refl; settled = l .1 }
 
 module _ {settings : Settings} {s s′ : List ℕ} {created : Creation} (long : storeBytes ≡ length s) (c : Created settings s created s′) where
-  abbrev creation : Verdict
+  abbrev creation : Verdict State
   creation = create (settings .capacity) (settings .«small_ratio») (settings .«ghost_ratio») storeBytes
 
   left-as : (q : Creation) → created ≡ q → Follows creation (createdSays q) s s′ [] []
   left-as q e = rw (← long, e) at (c .leaves)
 
-  output-is : {v : Verdict} → creation ≡ v → (q p : List ℕ) {p′ : List ℕ} {r : ℕ}
+  output-is : {v : Verdict State} → creation ≡ v → (q p : List ℕ) {p′ : List ℕ} {r : ℕ}
       → Wrote p 0 (printed (onCreated v q (length p))) p′ r → Wrote p 0 (printed (onAsked (asksOf settings) q (length p))) p′ r
-  output-is e q p {p′} {r} w = subst (λ (x : Verdict). Wrote p 0 (printed (onCreated x q (length p))) p′ r) (sym e) w
+  output-is e q p {p′} {r} w = subst (λ (x : Verdict State). Wrote p 0 (printed (onCreated x q (length p))) p′ r) (sym e) w
 
-  pub run-refused : {x : Refusal} {n r : ℕ} {p′ : List ℕ} (q p : List ℕ) → created ≡ Refused x → n ≡ numberOf x
-      → Wrote p 0 (noRecord n 0) p′ r → Wrote p 0 (printed (onAsked (asksOf settings) q (length p))) p′ r
-  run-refused {x} {n} {r} {p′} q p e en w =
-      output-is (turned-refused creation (numberOf x) 0 s s′ [] [] (left-as (Refused x) e)) q p (subst (λ (k : ℕ). Wrote p 0 (noRecord k 0) p′ r) en w)
-
-  pub run-short : {r : ℕ} {p′ : List ℕ} (q p : List ℕ) → created ≡ ShortStore
-      → Wrote p 0 (noRecord 6 0) p′ r → Wrote p 0 (printed (onAsked (asksOf settings) q (length p))) p′ r
-  run-short q p e w = output-is (turned-refused creation 6 0 s s′ [] [] (left-as ShortStore e)) q p w
+  pub run-refused : {t : Turned} {r : ℕ} {p′ : List ℕ} (q p : List ℕ) → created ≡ Refused t
+      → Wrote p 0 (noRecord (numberOf t) (detailOf t)) p′ r → Wrote p 0 (printed (onAsked (asksOf settings) q (length p))) p′ r
+  run-refused {t} q p e w = output-is (turned-refused creation (numberOf t) (detailOf t) s s′ [] [] (left-as (Refused t) e)) q p w
 
   pub run-made : {s″ q p p′ p″ : List ℕ} {ran : Ran} {r : ℕ} → created ≡ Made → Called s′ q p ran s″ p′ → Finished (ranSays ran) p′ p″ r
       → Wrote p 0 (printed (onAsked (asksOf settings) q (length p))) p″ r

@@ -6,6 +6,7 @@ use Prim.Native.Nat.{ℕ}
 use lib.ListN.{length, drop}
 use Rattle.rules.specs.Bytes.{mark, bytesOf}
 use Rattle.rules.specs.Sizing.{Asked, asks, noSettings, settingsBytes, settingsOf}
+use Rattle.rules.specs.State.{State}
 use Rattle.rules.specs.Verdict.{Verdict, refused, done, storeBytes, create, reads, call}
 use Rattle.wire.specs.Wire.{Wrote}
 use Rattle.s3_fifo.specs.Calls.{Said, gave, turned}
@@ -18,17 +19,17 @@ abbrev pub noBytes : ℕ
 noBytes = 11
 
 -- a verdict as bytes
-abbrev pub printed : Verdict → List ℕ
+abbrev pub printed : Verdict State → List ℕ
 printed (refused n d) = noRecord n d
 printed (done σ bs) = bs
 
 -- what follows the settings is one call on the cache that they made, with so much room for the replies
-abbrev pub onCreated : Verdict → List ℕ → ℕ → Verdict
+abbrev pub onCreated : Verdict State → List ℕ → ℕ → Verdict State
 onCreated (refused n d) q room = refused n d
 onCreated (done σ bs) q room = call (reads σ) q room
 
 -- wrong or short settings are refused first; the program's own store is long enough
-abbrev pub onAsked : Asked → List ℕ → ℕ → Verdict
+abbrev pub onAsked : Asked → List ℕ → ℕ → Verdict State
 onAsked noSettings q room = refused 9 0
 onAsked (asks capacity small ghost) q room = onCreated (create capacity small ghost storeBytes) q room
 

@@ -9,9 +9,11 @@ ghost use Rattle.wire.specs.Wire.{Wrote};
 ghost use Rattle.s3_fifo.specs.Calls.{ranSays};
 ghost use Rattle.replay.specs.Output.{noRecord, noBytes, printed, onAsked, outputFor, Finished};
 ghost use Rattle.replay.specs.Input.{Within, AtMost};
+ghost use Rattle.rules.specs.Refusals.{numberOf, detailOf};
 use libc::STDERR_FILENO;
 use libc::STDIN_FILENO;
 use libc::STDOUT_FILENO;
+use rules::Turned;
 use s3_fifo::Creation;
 use s3_fifo::Ran;
 use s3_fifo::S3FifoCache;
@@ -50,8 +52,8 @@ fn store_buffer() -> [u8; S3FifoCache::STORE_BYTES]
     [0; S3FifoCache::STORE_BYTES]
 }
 
-// Writes the record of a refusal.
-fn put_refusal(out: &mut [u8], number: u8, detail: u64) -> usize
+// Writes the record of a refusal with this number and detail.
+fn put_no(out: &mut [u8], number: u8, detail: u64) -> usize
     requires { ⌜ noBytes ≤ length (now out) ⌝ }
     ensures { λ r. ⌜ Wrote (now (out .entry)) 0 (noRecord number detail) (now (out .exit)) r ⌝ }
 {
@@ -62,6 +64,14 @@ fn put_refusal(out: &mut [u8], number: u8, detail: u64) -> usize
     11
 }
 
+// Writes the record of a refusal.
+fn put_refusal(out: &mut [u8], turned: Turned) -> usize
+    requires { ⌜ noBytes ≤ length (now out) ⌝ }
+    ensures { λ r. ⌜ Wrote (now (out .entry)) 0 (noRecord (numberOf turned) (detailOf turned)) (now (out .exit)) r ⌝ }
+{
+    put_no(out, turned.number(), turned.detail())
+}
+
 // What stands at the start of the replies once a call has answered: what it wrote, or the record of its refusal.
 fn finish(ran: Ran, replies: &mut [u8]) -> usize
     requires { ⌜ noBytes ≤ length (now replies) ⌝ }
@@ -69,11 +79,7 @@ fn finish(ran: Ran, replies: &mut [u8]) -> usize
 {
     match ran {
         Ran::Done(n) => n,
-        Ran::ShortStore => put_refusal(replies, 6, 0),
-        Ran::DamagedStore => put_refusal(replies, 7, 0),
-        Ran::LongRequests => put_refusal(replies, 8, 0),
-        Ran::BadRecord(at) => put_refusal(replies, 9, at as u64),
-        Ran::NoRoom(room) => put_refusal(replies, 10, room as u64),
+        Ran::Refused(turned) => put_refusal(replies, turned),
     }
 }
 
@@ -84,8 +90,7 @@ fn run_on(store: &mut [u8], settings: Settings, requests: &[u8], replies: &mut [
 {
     let created = S3FifoCache::create(settings, store);
     match created {
-        Creation::Refused(refusal) => put_refusal(replies, refusal.number(), 0),
-        Creation::ShortStore => put_refusal(replies, 6, 0),
+        Creation::Refused(turned) => put_refusal(replies, turned),
         Creation::Made => {
             let ran = S3FifoCache::run(store, requests, replies);
             finish(ran, replies)
@@ -100,7 +105,7 @@ fn reply_to(input: &[u8], replies: &mut [u8]) -> usize
 {
     let read = sizing::read_settings(input);
     match read {
-        Read::Bad => put_refusal(replies, 9, 0),
+        Read::Bad => put_refusal(replies, Turned::BadRecord(0)),
         Read::Asked(settings) => {
             let mut store = store_buffer();
             run_on(

@@ -1,11 +1,9 @@
 -- `mapcache::created_code` meets its contract.
 -- Assumes nothing.
 use borrow.Author.Needs.{needs}
-use Rattle.mapcache.proofs.CodeLaws.{refused-code}
+use Rattle.mapcache.proofs.CodeLaws.{created-turned}
 use Rattle.mapcache.proofs.created_code.Statement.{statement}
 use Rattle.mapcache.proofs.created_code.Tie as tie
-
-ruleset laws = (needs, refused-code)
 
 pub created-code-spec : {M : Type 1} → statement M
 created-code-spec =
@@ -15,7 +13,5 @@ created-code-spec =
     (λ c. search needs)
     (λ c κs. search needs)
     (λ c κs. search needs)
-    (λ c. search needs)
     (λ c. cc)
-    (λ c. search laws)
-    (λ c. cc))
+    (λ c. search (needs, created-turned)))

@@ -1,7 +1,7 @@
 -- `mapcache::ran_code` meets its contract.
 -- Assumes nothing.
 use borrow.Author.Needs.{needs}
-use Rattle.mapcache.proofs.CodeLaws.{done-fits, done-code}
+use Rattle.mapcache.proofs.CodeLaws.{done-fits, done-code, ran-turned}
 use Rattle.mapcache.proofs.ran_code.Statement.{statement}
 use Rattle.mapcache.proofs.ran_code.Tie as tie
 
@@ -12,13 +12,7 @@ ran-code-spec =
     (λ c. search needs)
     (λ c. search done-fits)
     (λ c. search needs)
-    (λ c. search needs)
-    (λ c. search needs)
-    (λ c. search needs)
-    (λ c. search needs)
+    (λ c κs. search needs)
+    (λ c κs. search needs)
     (λ c. search done-code)
-    (λ c. cc)
-    (λ c. cc)
-    (λ c. cc)
-    (λ c. cc)
-    (λ c. cc))
+    (λ c. search (needs, ran-turned)))

@@ -1,6 +1,7 @@
 -- `recorded::created_told` meets its contract.
 -- Assumes nothing.
 use borrow.Author.Needs.{needs}
+use Rattle.recorded.proofs.ToldLaws.{created-gave, created-turned}
 use Rattle.recorded.proofs.created_told.Statement.{statement}
 use Rattle.recorded.proofs.created_told.Tie as tie
 
@@ -12,9 +13,5 @@ created-told-spec =
     (λ c κs. search needs)
     (λ c. search needs)
     (λ c κs. search needs)
-    (λ c κs. search needs)
-    (λ c. search needs)
-    (λ c κs. search needs)
-    (λ c. cc)
-    (λ c. cc)
-    (λ c. cc))
+    (λ c. search created-gave)
+    (λ c. search created-turned))

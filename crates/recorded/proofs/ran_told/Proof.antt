@@ -1,6 +1,7 @@
 -- `recorded::ran_told` meets its contract.
 -- Assumes nothing.
 use borrow.Author.Needs.{needs}
+use Rattle.recorded.proofs.ToldLaws.{ran-gave, ran-turned}
 use Rattle.recorded.proofs.ran_told.Statement.{statement}
 use Rattle.recorded.proofs.ran_told.Tie as tie
 
@@ -12,17 +13,5 @@ ran-told-spec =
     (λ c κs. search needs)
     (λ c. search needs)
     (λ c κs. search needs)
-    (λ c. search needs)
-    (λ c κs. search needs)
-    (λ c. search needs)
-    (λ c κs. search needs)
-    (λ c. search needs)
-    (λ c κs. search needs)
-    (λ c. search needs)
-    (λ c κs. search needs)
-    (λ c. cc)
-    (λ c. cc)
-    (λ c. cc)
-    (λ c. cc)
-    (λ c. cc)
-    (λ c. cc))
+    (λ c. search ran-gave)
+    (λ c. search ran-turned))

@@ -1,7 +1,7 @@
 -- `replay::put_refusal` meets its contract.
 -- Assumes nothing.
 use borrow.Author.Needs.{needs}
-use Rattle.replay.proofs.OutputLaws.{refusal-wrote}
+use Rattle.replay.proofs.OutputLaws.{record-as}
 use Rattle.replay.proofs.put_refusal.Statement.{statement}
 use Rattle.replay.proofs.put_refusal.Tie as tie
 
@@ -9,11 +9,8 @@ pub put-refusal-spec : {M : Type 1} → statement M
 put-refusal-spec =
     tie.close
     (tie.spec
-    (λ c. search needs)
-    (λ c κs. search needs)
-    (λ c. search needs)
     (λ c κs. search needs)
     (λ c κs. search needs)
     (λ c κs. search needs)
     (λ c. search needs)
-    (λ c. search refusal-wrote))
+    (λ c. search record-as))

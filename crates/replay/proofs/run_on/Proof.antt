@@ -1,11 +1,9 @@
 -- `replay::run_on` meets its contract.
 -- Assumes nothing.
 use borrow.Author.Needs.{needs}
-use Rattle.replay.proofs.OutputLaws.{run-refused, run-short, run-made}
+use Rattle.replay.proofs.OutputLaws.{run-refused, run-made}
 use Rattle.replay.proofs.run_on.Statement.{statement}
 use Rattle.replay.proofs.run_on.Tie as tie
-
-ruleset laws = (needs, run-refused, run-short, run-made)
 
 pub run-on-spec : {M : Type 1} → statement M
 run-on-spec =
@@ -14,18 +12,12 @@ run-on-spec =
     (λ c κs. search needs)
     (λ c. search needs)
     (λ c κs. search needs)
-    (λ c κs. search needs)
-    (λ c. search needs)
-    (λ c κs. search needs)
     (λ c. search needs)
     (λ c κs. search needs)
     (λ c κs. search needs)
     (λ c. search needs)
     (λ c. search needs)
-    (λ c. search laws)
+    (λ c. search (needs, run-refused))
     (λ c. search needs)
     (λ c. search needs)
-    (λ c. search laws)
-    (λ c. search needs)
-    (λ c. search needs)
-    (λ c. search laws))
+    (λ c. search (needs, run-made)))

@@ -2,10 +2,10 @@
 
 use crate::edit::Edit;
 use crate::layout::{
-    header_cell, Field, Layout, Read, CAPACITY, CHAIN, FIELDS, FREE, GHOSTS, GHOST_LIMIT, HEADER, KEY, LENGTHS, MARK,
-    NEXT, PREV, QUEUE, SENTINELS, SMALL_LIMIT, VALUE,
+    CAPACITY, CHAIN, FIELDS, FREE, Field, GHOST_LIMIT, GHOSTS, HEADER, KEY, LENGTHS, Layout, MARK, NEXT, PREV, QUEUE,
+    Read, SENTINELS, SMALL_LIMIT, VALUE, header_cell,
 };
-use random::Random;
+use common::Random;
 
 #[derive(Clone, Copy, Debug, PartialEq, Eq, Hash, PartialOrd, Ord)]
 pub enum Damage {
@@ -81,9 +81,9 @@ pub const KINDS: [Damage; 21] = [
 pub fn inflict(kind: Damage, store: &mut [u8], other: &[u8], random: &mut Random) {
     let layout = Read::new(store).expect("the store is sound").layout;
     match kind {
-        Damage::Byte => store[random.index(layout.used())] = random.next() as u8,
+        Damage::Byte => store[random.index(layout.used())] = random.byte(),
         Damage::Bit => store[random.index(layout.used())] ^= 1 << random.below(8),
-        Damage::Limit => set_header(store, *random.pick(&[CAPACITY, SMALL_LIMIT, GHOST_LIMIT]), random),
+        Damage::Limit => set_header(store, random.pick(&[CAPACITY, SMALL_LIMIT, GHOST_LIMIT]), random),
         Damage::Length => set_header(store, LENGTHS + random.index(4), random),
         Damage::Link => lead_elsewhere(store, layout, random),
         Damage::Tag => store[layout.field(random.index(layout.nodes), QUEUE).start] = random.below(6) as u8,
@@ -94,7 +94,7 @@ pub fn inflict(kind: Damage, store: &mut [u8], other: &[u8], random: &mut Random
             store.copy_within(from, to.start);
         },
         Damage::SwappedField => {
-            let field: Field = *random.pick(&FIELDS);
+            let field: Field = random.pick(&FIELDS);
             let (a, b) = (random.index(layout.nodes + SENTINELS), random.index(layout.nodes + SENTINELS));
             swap(store, layout.field(a, field).start, layout.field(b, field).start, field.width);
         },
@@ -109,7 +109,7 @@ pub fn inflict(kind: Damage, store: &mut [u8], other: &[u8], random: &mut Random
         Damage::LostNode => Edit { store, layout }.detach(random.index(layout.nodes)),
         Damage::MovedNodes => move_nodes(Edit { store, layout }, random),
         Damage::TradedLimits => {
-            let change = random.from(1, 3) as i64 * *random.pick(&[1, -1]);
+            let change = random.between(1, 3) as i64 * random.pick(&[1, -1]);
             let mut edit = Edit { store, layout };
             edit.add_to_header(CAPACITY, change);
             edit.add_to_header(GHOST_LIMIT, -change);
@@ -135,7 +135,7 @@ pub fn inflict(kind: Damage, store: &mut [u8], other: &[u8], random: &mut Random
 fn set_header(store: &mut [u8], cell: usize, random: &mut Random) {
     let now = crate::layout::number(&store[header_cell(cell)]);
     let any = random.below(2000);
-    let to = *random.pick(&[0, now.wrapping_sub(1), now + 1, 1023, 1024, 1025, any, 1 << 32 | now, 1 << 63, u64::MAX]);
+    let to = random.pick(&[0, now.wrapping_sub(1), now + 1, 1023, 1024, 1025, any, 1 << 32 | now, 1 << 63, u64::MAX]);
     store[header_cell(cell)].copy_from_slice(&to.to_le_bytes());
 }
 

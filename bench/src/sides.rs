@@ -5,12 +5,11 @@
 //! zeros where a pair left, so that it writes as much as ours; finding the pair out would take it longer.
 
 use crate::input::{Call, Input};
-use mapcache::{GuestBlock, Left, Pair, PhysicalBlock, Queue, Reply, Request};
+use mapcache::{GuestBlock, Pair, PhysicalBlock, Reply, Request};
 use original::policy::s3_fifo::S3FifoCache;
 
 /// A report of zeros, in place of the pair that the original does not name.
-pub const SOME_PAIR_LEFT: Reply =
-    Reply::Left(Left { pair: Pair { guest: GuestBlock(0), physical: PhysicalBlock(0) }, from: Queue::Small });
+pub const SOME_PAIR_LEFT: Reply = Reply::LeftSmall(Pair { guest: GuestBlock(0), physical: PhysicalBlock(0) });
 
 pub trait Side {
     /// Runs all calls; answers the reply bytes of each to the function given.

@@ -43,7 +43,7 @@ pub fn compare(input: &Input) -> f64 {
 fn known(replies: &[u8]) -> Vec<Reply> {
     let replies = Reply::read_all(replies).expect("replies are records");
     let forget = |reply| match reply {
-        Reply::Left(_) => SOME_PAIR_LEFT,
+        Reply::LeftSmall(_) | Reply::LeftMain(_) => SOME_PAIR_LEFT,
         Reply::New { .. } => Reply::New { pops: 0 },
         reply => reply,
     };

@@ -1,6 +1,6 @@
 //! What the replies to one request say together.
 
-use crate::blocks::{Left, Pair, PhysicalBlock};
+use crate::blocks::{Left, Pair, PhysicalBlock, Queue};
 use crate::reply::Reply;
 use crate::request::Request;
 
@@ -79,7 +79,8 @@ impl<'a> Replies<'a> {
     /// one, so anything else means that another library was linked.
     pub(crate) fn answer(&mut self, request: Request) -> Answer {
         let (left, close) = match self.next() {
-            Reply::Left(left) => (Some(left), self.next()),
+            Reply::LeftSmall(pair) => (Some(Left { pair, from: Queue::Small }), self.next()),
+            Reply::LeftMain(pair) => (Some(Left { pair, from: Queue::Main }), self.next()),
             close => (None, close),
         };
         match (request, left, close) {

@@ -1,6 +1,6 @@
 //! The records that replies are made of.
 
-use crate::blocks::{GuestBlock, Left, Pair, PhysicalBlock, Queue};
+use crate::blocks::{GuestBlock, Pair, PhysicalBlock};
 use crate::record;
 use std::fmt;
 
@@ -27,8 +27,10 @@ pub enum Reply {
     HandedBack(Pair),
     /// OK: the cache is empty.
     Done,
-    /// ES and EM: the pair that the eviction rule pushed out. The record that closes the answer follows.
-    Left(Left),
+    /// ES: the pair that the eviction rule pushed out of Small. The record that closes the answer follows.
+    LeftSmall(Pair),
+    /// EM: the pair that it pushed out of Main. The record that closes the answer follows.
+    LeftMain(Pair),
 }
 
 impl Reply {
@@ -43,8 +45,8 @@ impl Reply {
             Reply::Gone(physical) => record::write(out, b"GO", [physical.0]),
             Reply::HandedBack(pair) => record::write(out, b"EX", numbers(pair)),
             Reply::Done => record::write(out, b"OK", []),
-            Reply::Left(Left { pair, from: Queue::Small }) => record::write(out, b"ES", numbers(pair)),
-            Reply::Left(Left { pair, from: Queue::Main }) => record::write(out, b"EM", numbers(pair)),
+            Reply::LeftSmall(pair) => record::write(out, b"ES", numbers(pair)),
+            Reply::LeftMain(pair) => record::write(out, b"EM", numbers(pair)),
         }
     }
 
@@ -62,8 +64,8 @@ impl Reply {
             b"GO" => (Reply::Gone(physical(0)?), 10),
             b"EX" => (Reply::HandedBack(pair()?), 18),
             b"OK" => (Reply::Done, 2),
-            b"ES" => (Reply::Left(Left { pair: pair()?, from: Queue::Small }), 18),
-            b"EM" => (Reply::Left(Left { pair: pair()?, from: Queue::Main }), 18),
+            b"ES" => (Reply::LeftSmall(pair()?), 18),
+            b"EM" => (Reply::LeftMain(pair()?), 18),
             _ => return None,
         };
         Some((reply, &bytes[length..]))
@@ -93,8 +95,8 @@ impl fmt::Display for Reply {
         let mut two = |mark, Pair { guest, physical }: &Pair| write!(f, "{mark} {} {}", guest.0, physical.0);
         match self {
             Reply::HandedBack(pair) => two("EX", pair),
-            Reply::Left(Left { pair, from: Queue::Small }) => two("ES", pair),
-            Reply::Left(Left { pair, from: Queue::Main }) => two("EM", pair),
+            Reply::LeftSmall(pair) => two("ES", pair),
+            Reply::LeftMain(pair) => two("EM", pair),
             Reply::Hit(physical) => write!(f, "HI {}", physical.0),
             Reply::Replaced(physical) => write!(f, "RE {}", physical.0),
             Reply::Gone(physical) => write!(f, "GO {}", physical.0),

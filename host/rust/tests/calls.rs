@@ -120,7 +120,6 @@ fn requests_and_replies_are_read_as_they_are_written() {
         assert_eq!((record.len(), Request::read(&record)), (request.bytes(), Some(request)));
         assert_eq!(Request::read(&record[..record.len() - 1]), None, "{request} cut short");
     }
-    let left = |from| Reply::Left(Left { pair: pair(1, 2), from });
     let replies = [
         Reply::Nothing,
         Reply::Hit(physical),
@@ -129,8 +128,8 @@ fn requests_and_replies_are_read_as_they_are_written() {
         Reply::Gone(physical),
         Reply::HandedBack(pair(0, 5)),
         Reply::Done,
-        left(Queue::Small),
-        left(Queue::Main),
+        Reply::LeftSmall(pair(1, 2)),
+        Reply::LeftMain(pair(1, 2)),
     ];
     let mut bytes = Vec::new();
     replies.iter().for_each(|reply| reply.write(&mut bytes));

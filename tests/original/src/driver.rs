@@ -5,7 +5,7 @@ use crate::error::ConfigError;
 use crate::policy::s3_fifo::{S3FifoCache, observe};
 use crate::state::{Entry, State};
 use crate::traits::EvictingCache;
-use mapcache::{GuestBlock, Left, Pair, PhysicalBlock, Queue, Reply, Request, Settings};
+use mapcache::{GuestBlock, Pair, PhysicalBlock, Reply, Request, Settings};
 
 pub struct Original {
     cache: S3FifoCache<u64, u64>,
@@ -97,8 +97,8 @@ impl Original {
         assert!(left.next().is_none(), "the original pushed two pairs out in one request");
         match (first, moved.left_small, moved.left_main) {
             (None, 0, 0) => {},
-            (Some(e), 1, 0) => report(e, Queue::Small).write(replies),
-            (Some(e), 0, 1) => report(e, Queue::Main).write(replies),
+            (Some(e), 1, 0) => Reply::LeftSmall(pair(e.key, e.value)).write(replies),
+            (Some(e), 0, 1) => Reply::LeftMain(pair(e.key, e.value)).write(replies),
             (left, small, main) => panic!("the original lost {left:?} and counts {small} from Small, {main} from Main"),
         }
     }
@@ -113,8 +113,4 @@ fn hit(value: Option<&u64>) -> Reply {
 
 fn pair(key: u64, value: u64) -> Pair {
     Pair { guest: GuestBlock(key), physical: PhysicalBlock(value) }
-}
-
-fn report(entry: &Entry, from: Queue) -> Reply {
-    Reply::Left(Left { pair: pair(entry.key, entry.value), from })
 }

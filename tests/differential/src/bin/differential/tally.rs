@@ -1,7 +1,7 @@
 //! Counts what the runs came across. A kind of event that never came up would mean that nothing was compared there.
 
 use crate::pair::Agreed;
-use mapcache::{GuestBlock, Left, MOST_REQUEST_BYTES, PhysicalBlock, Queue, Reply, Request};
+use mapcache::{GuestBlock, MOST_REQUEST_BYTES, PhysicalBlock, Reply, Request};
 use original::state::State;
 use std::collections::{BTreeMap, BTreeSet};
 
@@ -114,8 +114,7 @@ impl Tally {
     }
 
     fn replies(&mut self, request: Request, replies: &[Reply]) {
-        use Queue::{Main, Small};
-        use Reply::{Done, Gone, HandedBack, Hit, Left as Leaves, New, Nothing, Replaced};
+        use Reply::{Done, Gone, HandedBack, Hit, LeftMain, LeftSmall, New, Nothing, Replaced};
         let (kind, event) = match (request, replies) {
             (Request::Get(_), [Hit(_)]) => ("requests GT", "GT: HI"),
             (Request::Get(_), [Nothing]) => ("requests GT", "GT: MI"),
@@ -125,24 +124,16 @@ impl Tally {
             (Request::Remove(_), [Nothing]) => ("requests RM", "RM: MI"),
             (Request::Insert(..), [Replaced(_)]) => ("requests IN", "IN: RE"),
             (Request::Insert(..), [New { pops: 0 }]) => ("requests IN", "IN: NW 0"),
-            (Request::Insert(..), [Leaves(Left { from: Small, .. }), New { pops: 1 }]) => {
-                ("requests IN", "IN: ES, NW 1")
-            },
-            (Request::Insert(..), [Leaves(Left { from: Small, .. }), New { .. }]) => {
-                ("requests IN", "IN: ES, NW 2 or more")
-            },
-            (Request::Insert(..), [Leaves(Left { from: Main, .. }), New { pops: 1 }]) => {
-                ("requests IN", "IN: EM, NW 1")
-            },
-            (Request::Insert(..), [Leaves(Left { from: Main, .. }), New { .. }]) => {
-                ("requests IN", "IN: EM, NW 2 or more")
-            },
+            (Request::Insert(..), [LeftSmall(_), New { pops: 1 }]) => ("requests IN", "IN: ES, NW 1"),
+            (Request::Insert(..), [LeftSmall(_), New { .. }]) => ("requests IN", "IN: ES, NW 2 or more"),
+            (Request::Insert(..), [LeftMain(_), New { pops: 1 }]) => ("requests IN", "IN: EM, NW 1"),
+            (Request::Insert(..), [LeftMain(_), New { .. }]) => ("requests IN", "IN: EM, NW 2 or more"),
             (Request::Evict, [HandedBack(_)]) => ("requests EV", "EV: EX"),
             (Request::Evict, [Nothing]) => ("requests EV", "EV: MI"),
-            (Request::Evict, [Leaves(Left { from: Small, .. }), HandedBack(_)]) => ("requests EV", "EV: ES, EX"),
-            (Request::Evict, [Leaves(Left { from: Small, .. }), Nothing]) => ("requests EV", "EV: ES, MI"),
-            (Request::Evict, [Leaves(Left { from: Main, .. }), HandedBack(_)]) => ("requests EV", "EV: EM, EX"),
-            (Request::Evict, [Leaves(Left { from: Main, .. }), Nothing]) => ("requests EV", "EV: EM, MI"),
+            (Request::Evict, [LeftSmall(_), HandedBack(_)]) => ("requests EV", "EV: ES, EX"),
+            (Request::Evict, [LeftSmall(_), Nothing]) => ("requests EV", "EV: ES, MI"),
+            (Request::Evict, [LeftMain(_), HandedBack(_)]) => ("requests EV", "EV: EM, EX"),
+            (Request::Evict, [LeftMain(_), Nothing]) => ("requests EV", "EV: EM, MI"),
             (Request::Clear, [Done]) => ("requests CL", "CL: OK"),
             _ => panic!("{request} has the replies {replies:?}, which belong to no request of its kind"),
         };
@@ -204,5 +195,5 @@ impl Tally {
 }
 
 fn is_report(reply: &Reply) -> bool {
-    matches!(reply, Reply::Left(_))
+    matches!(reply, Reply::LeftSmall(_) | Reply::LeftMain(_))
 }

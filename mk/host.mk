@@ -26,7 +26,7 @@ rust-lint: $(ARCHIVE)
 	@cargo fmt --all --check
 	@rustfmt --check --edition 2024 tests/original/src/observe.rs
 	@$(CARGO) clippy $(CARGO_FLAGS) $(RUST) --all-targets -- -D warnings
-	@! grep -n 'path = .*\(tests\|bench\)/' host/*/Cargo.toml || { echo 'host/ depends on what is outside it' >&2; exit 1; }
+	@! grep -nE 'path = .*(tests|bench)/' host/*/Cargo.toml || { echo 'host/ depends on what is outside it' >&2; exit 1; }
 	@echo 'rust-lint: formatted, and clippy has no warning$(if $(HAVE_ORIGINAL),, (without what is made of the original))'
 
 # The header's worked example is cut out of its comment, so that what people copy is what is compiled.
@@ -63,6 +63,7 @@ host-thin: $(ARCHIVE) | $(HOST)
 
 host-tools: host-c manual
 	@HEADER='$(abspath $(HEADER))' STORE='$(abspath $(HOST)/trace_d.store)' python3 tests/tools/test_mapcache.py
+	@python3 tests/tools/test_scripts.py
 	@if command -v groff > /dev/null; then \
 		said=$$(groff -man -Tutf8 -ww -z $(MANUAL) 2>&1) && test -z "$$said" || { echo "$$said" >&2; exit 1; }; fi
 

@@ -57,6 +57,8 @@ host-rust: $(ARCHIVE)
 host-thin: $(ARCHIVE) | $(HOST)
 	@$(CARGO) run $(CARGO_FLAGS) -p thin -- --map $(HOST)/thin.map > $(HOST)/thin.told
 	@cmp $(HOST)/thin.told examples/thin.told && echo 'thin: the scenario goes as examples/thin.told says'
+	@test "$$($(CARGO) run $(CARGO_FLAGS) -p thin -- --version)" = 'thin $(VERSION)' || \
+		{ echo 'host-thin: thin --version does not say thin $(VERSION)' >&2; exit 1; }
 	@test -n '$(HAVE_ORIGINAL)' || \
 		{ echo 'host-thin: ORIGINAL=$(ORIGINAL) does not hold the original: that half is left out'; test '$(STRICT)' != 1; }
 	@$(CARGO) run $(CARGO_FLAGS) -p thin-runs $(THIN_FEATURES) -- --map $(HOST)/thin.map

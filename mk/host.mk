@@ -83,6 +83,8 @@ run: $(REPLAY) | $(HOST)
 host-run: $(REPLAY) | $(HOST)
 	@$(call run_trace,examples/first.trace) > $(HOST)/first.answers
 	@cmp $(HOST)/first.answers examples/first.answers && echo 'make run: the example gives its answers'
+	@test "$$($(REPLAY) --version < /dev/null)" = 'mapcache-replay $(VERSION)' || \
+		{ echo 'host-run: $(REPLAY) --version does not say mapcache-replay $(VERSION)' >&2; exit 1; }
 
 fuzz-gate: $(ARCHIVE)
 	@$(FUZZ) --seed $(GATE_FUZZ_SEED) --calls $(GATE_FUZZ_CALLS)

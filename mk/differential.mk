@@ -6,26 +6,17 @@
 #   make record                                  write crates/recorded/data anew from the original
 #   make bench                                   the tables of docs/SPEED.md
 #
-# ORIGINAL is the folder that holds the original's src/ (cachekit at ea11b66d22). Where it is not there the gate says so
-# and goes on, since the recorded answers are compared without it; with STRICT=1 that is a failure. The other targets
-# need it. Whoever includes this has the rule that makes $(ARCHIVE).
-
-ORIGINAL ?= ../shared/docs/src
-ARCHIVE ?= target/staticlib/libmapcache.a
-SEED ?= 1
-REQUESTS ?= 20000000
+# Where the original is not there the gate goes on, since its recorded answers are compared without it. The other targets
+# need it.
 
 GATE_SEED := 1
 GATE_REQUESTS := 4000000
-RECORDED := crates/recorded/data
 RECORDED_CASES := $(addprefix $(RECORDED)/,few.bin many.bin most.bin)
 
-HAVE_ORIGINAL := $(wildcard $(ORIGINAL)/src/policy/s3_fifo.rs)
-WITH_ORIGINAL = ORIGINAL='$(abspath $(ORIGINAL))' MAPCACHE_LIB_DIR='$(abspath $(dir $(ARCHIVE)))' \
-	CARGO_TARGET_DIR='$(abspath target/cargo)' cargo run --quiet --release --offline --locked
-DIFFERENTIAL = $(WITH_ORIGINAL) --manifest-path tests/differential/Cargo.toml --bin differential --
-RECORD = $(WITH_ORIGINAL) --manifest-path tests/differential/Cargo.toml --bin record --
-BENCH = $(WITH_ORIGINAL) --manifest-path bench/Cargo.toml --bin bench --
+DIFFERENTIAL := $(CARGO) run $(CARGO_FLAGS) -p differential --bin differential --
+RECORD := $(CARGO) run $(CARGO_FLAGS) -p differential --bin record --
+# Built as hosts build, and not with the checks of the tests.
+BENCH := $(CARGO) run $(filter-out --release,$(CARGO_FLAGS)) --profile timed -p bench --
 
 .PHONY: differential-gate differential departures record bench need-original
 
@@ -42,7 +33,7 @@ differential-gate:
 endif
 
 need-original:
-	@test -n '$(HAVE_ORIGINAL)' || { echo 'ORIGINAL=$(ORIGINAL) does not hold the original (src/policy/s3_fifo.rs)' >&2; exit 1; }
+	@test -n '$(HAVE_ORIGINAL)' || { echo 'ORIGINAL=$(ORIGINAL) does not hold the original (src/policy/s3_fifo.rs): README.md says where to get it' >&2; exit 1; }
 
 differential: need-original $(ARCHIVE)
 	@$(DIFFERENTIAL) run $(SEED) $(REQUESTS)

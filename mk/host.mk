@@ -1,75 +1,77 @@
-# For hosts and people: the host tests, the fuzzer, the example, installation.
+# For hosts: their tests, the fuzzer, the lints of all Rust.
 #
-#   make host-test                        hosts in C (plain, sanitized, under valgrind) and Rust, the example host, the tools
-#   make fuzz-gate                        bad input at scale: the calls that `make test` makes, a fixed seed
-#   make fuzz SEED=7 CALLS=10000000       any seed, any number of calls
-#   make run [TRACE=file]                 a trace in text through the replay program, its answers in text
-#   make install [PREFIX=dir] [DESTDIR=]  header, archive, pkg-config file, programs, man pages
-#
-# ORIGINAL is the folder that holds the original's src/. Where it is not there, or there is no valgrind, that part says
-# so and is left out; with STRICT=1 it is a failure. Whoever includes this has the rules that make $(ARCHIVE) and $(REPLAY).
-
-ORIGINAL ?= ../shared/docs/src
-ARCHIVE ?= target/staticlib/libmapcache.a
-REPLAY ?= target/bin/replay
-PREFIX ?= /usr/local
-TRACE ?= examples/first.trace
-SEED ?= 1
-CALLS ?= 5000000
+#   make host-test                   hosts in C (plain, sanitized, under valgrind) and Rust, the example host, the tools
+#   make rust-lint                   rustfmt and clippy over hosts, tests and benchmark, warnings as errors
+#   make constants                   header, wrapper and tools have the constants of the proved code
+#   make fuzz-gate                   bad input at scale: the calls that `make test` makes, a fixed seed
+#   make fuzz SEED=7 CALLS=10000000  any seed, any number of calls
 
 GATE_FUZZ_SEED := 1
 GATE_FUZZ_CALLS := 120000
 VALGRIND_CALLS := 300
 
-HOST := target/host
-HOST_CFLAGS := -std=c11 -Wall -Wextra -Wpedantic -Werror -O2 -g -Ihost
 SANITIZE := -fsanitize=address,undefined -fno-sanitize-recover=all
-HOST_CARGO = ORIGINAL='$(abspath $(ORIGINAL))' MAPCACHE_LIB_DIR='$(abspath $(dir $(ARCHIVE)))' \
-	CARGO_TARGET_DIR='$(abspath target/cargo)' cargo
-CARGO_FLAGS := --quiet --release --offline --locked
-THIN_FEATURES := $(if $(wildcard $(ORIGINAL)/src/policy/s3_fifo.rs),--features original)
-FUZZ = $(HOST_CARGO) run $(CARGO_FLAGS) --manifest-path tests/fuzz/Cargo.toml --
+FUZZ := $(CARGO) run $(CARGO_FLAGS) -p mapcache-fuzz --
 
-.PHONY: host-test host-c host-rust host-thin host-tools host-run host-install fuzz-gate fuzz run install
+# All Rust of the workspace, as far as it can be built: some of it is made of the original.
+THIN_FEATURES := $(if $(HAVE_ORIGINAL),--features thin-runs/original)
+RUST := --workspace $(if $(HAVE_ORIGINAL),$(THIN_FEATURES),--exclude original --exclude differential --exclude bench)
+
+.PHONY: host-test host-c host-rust host-thin host-tools host-run rust-lint constants fuzz-gate fuzz
 
 host-test: host-c host-rust host-thin host-tools host-run host-install
 
-$(HOST):
-	@mkdir -p $@
+# observe.rs is named by a file that the build writes, so cargo does not find it. A host needs nothing of the tests.
+rust-lint: $(ARCHIVE)
+	@cargo fmt --all --check
+	@rustfmt --check --edition 2024 tests/original/src/observe.rs
+	@$(CARGO) clippy $(CARGO_FLAGS) $(RUST) --all-targets -- -D warnings
+	@! grep -nE 'path = .*(tests|bench)/' host/*/Cargo.toml || { echo 'host/ depends on what is outside it' >&2; exit 1; }
+	@echo 'rust-lint: formatted, and clippy has no warning$(if $(HAVE_ORIGINAL),, (without what is made of the original))'
 
 # The header's worked example is cut out of its comment, so that what people copy is what is compiled.
-$(HOST)/example.c: host/mapcache.h | $(HOST)
+$(HOST)/example.c: $(HEADER)
 	@sed -n '/--- example begins ---/,/--- example ends ---/{//!s/^ \* \{0,1\}//p}' $< > $@
 	@test -s $@ || { echo '$<: there is no example in it' >&2; exit 1; }
 
 # No variables, so that threads may call it side by side; no symbols of others but the C library's mem functions.
-host-c: $(ARCHIVE) $(HOST)/example.c | $(HOST)
+host-c: $(ARCHIVE) $(HEADER) $(HOST)/example.c
 	@! nm $(ARCHIVE) | grep -E ' [bBcCdD] ' || { echo '$(ARCHIVE): these are variables, and mapcache.h says that there are none' >&2; exit 1; }
 	@! nm -u $(ARCHIVE) | grep ' U ' | grep -vE ' U mem(cpy|move|set|cmp)$$' || { echo '$(ARCHIVE): needs more than the mem functions' >&2; exit 1; }
-	@gcc $(HOST_CFLAGS) $(HOST)/example.c $(ARCHIVE) -o $(HOST)/example
+	@gcc $(CFLAGS) $(HOST)/example.c $(ARCHIVE) -o $(HOST)/example
 	@test "$$($(HOST)/example)" = '38 bytes: NW 0, then ES 7 70, NW 1' || \
-		{ echo 'host/mapcache.h: its example prints something else' >&2; exit 1; }
-	@gcc $(HOST_CFLAGS) host/c/test.c $(ARCHIVE) -o $(HOST)/test
-	@$(HOST)/test 20000 $(HOST)/trace_d.store
-	@gcc $(HOST_CFLAGS) $(SANITIZE) host/c/test.c $(ARCHIVE) -o $(HOST)/test-sanitized
-	@echo 'c host, address and undefined behaviour sanitizers:' && $(HOST)/test-sanitized
+		{ echo 'host/mapcache.h.in: its example prints something else' >&2; exit 1; }
+	@gcc $(CFLAGS) host/c/test.c $(ARCHIVE) -o $(HOST)/test
+	@$(HOST)/test $(RECORDED)/calls.bin 20000 $(HOST)/trace_d.store
+	@gcc $(CFLAGS) $(SANITIZE) host/c/test.c $(ARCHIVE) -o $(HOST)/test-sanitized
+	@echo 'c host, address and undefined behaviour sanitizers:' && $(HOST)/test-sanitized $(RECORDED)/calls.bin
 	@if command -v valgrind > /dev/null; then \
-		echo 'c host, valgrind:' && valgrind -q --error-exitcode=9 --leak-check=full $(HOST)/test $(VALGRIND_CALLS); \
+		echo 'c host, valgrind:' && \
+		valgrind -q --error-exitcode=9 --leak-check=full $(HOST)/test $(RECORDED)/calls.bin $(VALGRIND_CALLS); \
 	else echo 'host-c: there is no valgrind: that run is left out'; test '$(STRICT)' != 1; fi
 
 host-rust: $(ARCHIVE)
-	@$(HOST_CARGO) test $(CARGO_FLAGS) --manifest-path tests/random/Cargo.toml
-	@$(HOST_CARGO) test $(CARGO_FLAGS) --manifest-path host/rust/Cargo.toml
+	@$(CARGO) test $(CARGO_FLAGS) -p common -p mapcache
 
+# The scenario that it shows to people, then random runs.
 host-thin: $(ARCHIVE) | $(HOST)
-	@test -n '$(THIN_FEATURES)' || \
+	@$(CARGO) run $(CARGO_FLAGS) -p thin -- --map $(HOST)/thin.map > $(HOST)/thin.told
+	@cmp $(HOST)/thin.told examples/thin.told && echo 'thin: the scenario goes as examples/thin.told says'
+	@test "$$($(CARGO) run $(CARGO_FLAGS) -p thin -- --version)" = 'thin $(VERSION)' || \
+		{ echo 'host-thin: thin --version does not say thin $(VERSION)' >&2; exit 1; }
+	@test -n '$(HAVE_ORIGINAL)' || \
 		{ echo 'host-thin: ORIGINAL=$(ORIGINAL) does not hold the original: that half is left out'; test '$(STRICT)' != 1; }
-	@$(HOST_CARGO) run $(CARGO_FLAGS) --manifest-path host/thin/Cargo.toml $(THIN_FEATURES) -- --map $(HOST)/thin.map
+	@$(CARGO) run $(CARGO_FLAGS) -p thin-runs $(THIN_FEATURES) -- --map $(HOST)/thin.map
 
-host-tools: host-c
-	@STORE='$(abspath $(HOST)/trace_d.store)' python3 tests/tools/test_mapcache.py
+host-tools: host-c manual
+	@HEADER='$(abspath $(HEADER))' STORE='$(abspath $(HOST)/trace_d.store)' python3 tests/tools/test_mapcache.py
+	@python3 tests/tools/test_scripts.py
 	@if command -v groff > /dev/null; then \
-		said=$$(groff -man -Tutf8 -ww -z man/*.1 2>&1) && test -z "$$said" || { echo "$$said" >&2; exit 1; }; fi
+		said=$$(groff -man -Tutf8 -ww -z $(MANUAL) 2>&1) && test -z "$$said" || { echo "$$said" >&2; exit 1; }; fi
+
+constants: $(ARCHIVE) $(HEADER)
+	@HEADER='$(abspath $(HEADER))' WRAPPER="$(CARGO) run $(CARGO_FLAGS) -p mapcache --example constants" \
+		python3 tests/constants/test_constants.py
 
 # The answers to the trace $(1), as text.
 run_trace = tools/mapcache encode $(1) > $(HOST)/run.requests && \
@@ -81,32 +83,8 @@ run: $(REPLAY) | $(HOST)
 host-run: $(REPLAY) | $(HOST)
 	@$(call run_trace,examples/first.trace) > $(HOST)/first.answers
 	@cmp $(HOST)/first.answers examples/first.answers && echo 'make run: the example gives its answers'
-
-# Installs for the prefix $(1), in the folder $(2) in front of it.
-define install_below
-set -e; to='$(2)$(1)'; install -d "$$to/include" "$$to/lib/pkgconfig" "$$to/bin" "$$to/share/man/man1"; \
-install -m 644 host/mapcache.h "$$to/include/mapcache.h"; \
-install -m 644 $(ARCHIVE) "$$to/lib/libmapcache.a"; \
-sed 's|@PREFIX@|$(1)|' host/mapcache.pc.in > "$$to/lib/pkgconfig/mapcache.pc"; \
-install -m 755 tools/mapcache "$$to/bin/mapcache"; \
-install -m 755 $(REPLAY) "$$to/bin/mapcache-replay"; \
-install -m 644 man/mapcache.1 man/mapcache-replay.1 "$$to/share/man/man1"
-endef
-
-install: $(ARCHIVE) $(REPLAY)
-	@$(call install_below,$(PREFIX),$(DESTDIR))
-	@echo 'installed below $(DESTDIR)$(PREFIX)'
-
-# An installation into an empty folder serves a host that knows only that folder.
-host-install: $(ARCHIVE) $(REPLAY) $(HOST)/example.c
-	@rm -rf $(HOST)/prefix
-	@$(call install_below,$(abspath $(HOST)/prefix),)
-	@set -e; prefix='$(abspath $(HOST)/prefix)'; bin="$$prefix/bin"; man="$$prefix/share/man/man1"; \
-	if command -v pkg-config > /dev/null; then export PKG_CONFIG_PATH="$$prefix/lib/pkgconfig"; flags=$$(pkg-config --cflags --libs mapcache); \
-	else flags="-I$$prefix/include -L$$prefix/lib -lmapcache"; fi; \
-	gcc -std=c11 -Wall -Wextra -Werror $(HOST)/example.c $$flags -o $(HOST)/installed; $(HOST)/installed > /dev/null; \
-	"$$bin/mapcache" encode examples/first.trace | "$$bin/mapcache-replay" | "$$bin/mapcache" replies > /dev/null; \
-	test -s "$$man/mapcache.1"; test -s "$$man/mapcache-replay.1"; echo 'make install: a host builds and runs against it'
+	@test "$$($(REPLAY) --version < /dev/null)" = 'mapcache-replay $(VERSION)' || \
+		{ echo 'host-run: $(REPLAY) --version does not say mapcache-replay $(VERSION)' >&2; exit 1; }
 
 fuzz-gate: $(ARCHIVE)
 	@$(FUZZ) --seed $(GATE_FUZZ_SEED) --calls $(GATE_FUZZ_CALLS)

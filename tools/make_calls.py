@@ -1,9 +1,10 @@
 #!/usr/bin/env python3
 """Writes recorded calls with what document 01 says of each: make_calls.py STEPS CASES
 
-STEPS (crates/recorded/data/calls.bin) is for the program `recorded`: steps on one store, each with 32 bytes in front (kind,
-store bytes lent, reply room, number; lengths of input and output; detail), input and output. CASES (tests/replay/calls.bin) is
-for the replay program: lengths of input and output, settings and requests, and what the program must write.
+STEPS (crates/recorded/data/calls.bin) is for the program `recorded` and for the hosts' tests in C and Rust: steps on one store,
+each with 32 bytes in front (kind, store bytes lent, reply room, number; lengths of input and output; detail), input and output.
+CASES is for the replay program, written when it is tested: lengths of input and output, settings and requests, and what the
+program must write. This is the one table of refused calls: a new refusal gets its cases here.
 
 The answers are written out here by hand from the document. Nothing is asked of the library, and no rule is worked out.
 """
@@ -174,6 +175,22 @@ def refusal_6():
     run(GT(1), HI(10))
 
 
+def damaged(offset, before, after):
+    """These bytes damage the store of trace B, which is mended again."""
+    lay(offset, *after)
+    run(PK(1), number=7)
+    run(b"", number=7, room=0)
+    lay(offset, *before)
+    run(PK(1), HI(10))
+
+
+def open_byte(offset, before, after):
+    """These bytes make it no other store, or another sound one."""
+    lay(offset, *after)
+    run(PK(1), HI(10))
+    lay(offset, *before)
+
+
 def refusal_7():
     """Damage to the store that docs/STORE.md shows, one piece at a time, and the store mended again after each."""
     fill(MEMORY)
@@ -181,18 +198,6 @@ def refusal_7():
     run(b"?" * (MOST_REQUEST_BYTES + 1), number=7)
     create(settings(2))
     run(IN(1, 10) + GT(1) + IN(2, 20) + IN(3, 30), NW(0) + HI(10) + NW(0) + ES(2, 20) + NW(2))
-
-    def damaged(offset, before, after):
-        lay(offset, *after)
-        run(PK(1), number=7)
-        run(b"", number=7, room=0)
-        lay(offset, *before)
-        run(PK(1), HI(10))
-
-    def open_byte(offset, before, after):
-        lay(offset, *after)
-        run(PK(1), HI(10))
-        lay(offset, *before)
 
     damaged(0, [2], [0])                     # the capacity is 0
     damaged(0, [2, 0], [1, 4])               # the capacity is 1,025

@@ -1,6 +1,7 @@
 //! What is run: requests as bytes, cut into calls.
 
-use original::records::{MOST_REQUEST_BYTES, Request, Settings};
+use common::Random;
+use mapcache::{GuestBlock, MOST_REQUEST_BYTES, PhysicalBlock, Request, Settings};
 
 pub const CAPACITIES: [u64; 2] = [100, 1000];
 pub const PATTERNS: [Pattern; 3] = [Pattern::Uniform, Pattern::Skewed, Pattern::Scan];
@@ -49,8 +50,8 @@ pub fn input(capacity: u64, pattern: Pattern, requests: u64) -> Input {
     let mut calls = vec![Call { requests: Vec::new(), room: 0 }];
     for number in 0..requests {
         let request = match number % (LOOKUPS_TO_AN_INSERT + 1) {
-            LOOKUPS_TO_AN_INSERT => Request::Insert { key: keys.next_insert(), value: number },
-            _ => Request::Get { key: keys.next_lookup() },
+            LOOKUPS_TO_AN_INSERT => Request::Insert(keys.next_insert(), PhysicalBlock(number)),
+            _ => Request::Get(keys.next_lookup()),
         };
         let mut call = calls.pop().expect("there is a call");
         if call.requests.len() + request.bytes() > MOST_REQUEST_BYTES {
@@ -58,15 +59,15 @@ pub fn input(capacity: u64, pattern: Pattern, requests: u64) -> Input {
             call = Call { requests: Vec::new(), room: 0 };
         }
         request.write(&mut call.requests);
-        call.room += request.room();
+        call.room += request.reply_room();
         calls.push(call);
     }
-    Input { settings: Settings { capacity, small_ratio: 0.1, ghost_ratio: 0.9 }, calls }
+    Input { settings: Settings::with_capacity(capacity), calls }
 }
 
 struct Keys {
     pattern: Pattern,
-    state: u64,
+    random: Random,
     universe: u64,
     looked_up: u64,
     inserted: u64,
@@ -87,35 +88,27 @@ impl Keys {
                 Some(*sum)
             })
             .collect();
-        Keys { pattern, state: SEED, universe, looked_up: 0, inserted: 0, sums }
+        Keys { pattern, random: Random::new(SEED), universe, looked_up: 0, inserted: 0, sums }
     }
 
-    fn next_lookup(&mut self) -> u64 {
+    fn next_lookup(&mut self) -> GuestBlock {
         self.looked_up += 1;
         self.key(self.looked_up)
     }
 
-    fn next_insert(&mut self) -> u64 {
+    fn next_insert(&mut self) -> GuestBlock {
         self.inserted += 1;
         self.key(self.inserted)
     }
 
-    fn key(&mut self, turn: u64) -> u64 {
-        match self.pattern {
-            Pattern::Uniform => (self.fraction() * self.universe as f64) as u64,
+    fn key(&mut self, turn: u64) -> GuestBlock {
+        GuestBlock(match self.pattern {
+            Pattern::Uniform => (self.random.fraction() * self.universe as f64) as u64,
             Pattern::Skewed => {
-                let sum = self.fraction() * self.sums[self.sums.len() - 1];
+                let sum = self.random.fraction() * self.sums[self.sums.len() - 1];
                 self.sums.partition_point(|so_far| *so_far <= sum) as u64
             },
             Pattern::Scan => turn % self.universe,
-        }
-    }
-
-    /// A number in [0, 1), by SplitMix64.
-    fn fraction(&mut self) -> f64 {
-        self.state = self.state.wrapping_add(0x9e37_79b9_7f4a_7c15);
-        let a = (self.state ^ (self.state >> 30)).wrapping_mul(0xbf58_476d_1ce4_e5b9);
-        let b = (a ^ (a >> 27)).wrapping_mul(0x94d0_49bb_1331_11eb);
-        ((b ^ (b >> 31)) >> 11) as f64 / (1u64 << 53) as f64
+        })
     }
 }

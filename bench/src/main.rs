@@ -6,8 +6,8 @@ mod instructions;
 mod sides;
 mod times;
 
+use common::program;
 use input::{CAPACITIES, PATTERNS, Pattern, input};
-use std::env;
 use std::fs;
 use std::process::ExitCode;
 
@@ -20,21 +20,12 @@ const REQUESTS: u64 = 1_000_000;
 const COUNTED_REQUESTS: u64 = 100_000;
 
 fn main() -> ExitCode {
-    let arguments: Vec<String> = env::args().skip(1).collect();
-    let words: Vec<&str> = arguments.iter().map(String::as_str).collect();
-    let done = match words.as_slice() {
+    program::with_words("bench", |words| match words {
         [] => all(REQUESTS),
         ["once", side, capacity, pattern, requests] => once(side, capacity, pattern, requests),
         [requests] => number(requests).and_then(all),
         _ => Err(USAGE.to_string()),
-    };
-    match done {
-        Ok(()) => ExitCode::SUCCESS,
-        Err(error) => {
-            eprintln!("bench: {error}");
-            ExitCode::FAILURE
-        },
-    }
+    })
 }
 
 fn all(requests: u64) -> Result<(), String> {

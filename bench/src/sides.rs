@@ -5,8 +5,11 @@
 //! zeros where a pair left, so that it writes as much as ours; finding the pair out would take it longer.
 
 use crate::input::{Call, Input};
+use mapcache::{GuestBlock, Pair, PhysicalBlock, Reply, Request};
 use original::policy::s3_fifo::S3FifoCache;
-use original::records::{Reply, Request};
+
+/// A report of zeros, in place of the pair that the original does not name.
+pub const SOME_PAIR_LEFT: Reply = Reply::LeftSmall(Pair { guest: GuestBlock(0), physical: PhysicalBlock(0) });
 
 pub trait Side {
     /// Runs all calls; answers the reply bytes of each to the function given.
@@ -20,15 +23,15 @@ pub struct Ours {
 
 impl Ours {
     pub fn new(input: &Input) -> Ours {
-        let mut store = vec![0; library::store_bytes()];
-        library::create(input.settings, &mut store).expect("the settings are valid");
+        let mut store = vec![0; mapcache::store_bytes()];
+        mapcache::create(input.settings, &mut store).expect("the settings are valid");
         Ours { store, replies: vec![0; most_room(&input.calls)] }
     }
 
     /// So many calls of no request: each checks that the store is sound, and that is all.
     pub fn check(&mut self, times: usize) {
         for _ in 0..times {
-            let written = library::run(&mut self.store, &[], &mut self.replies).expect("the store is sound");
+            let written = mapcache::run(&mut self.store, &[], &mut self.replies).expect("the store is sound");
             assert_eq!(written, 0, "no requests have no replies");
         }
     }
@@ -38,7 +41,7 @@ impl Side for Ours {
     fn run(&mut self, calls: &[Call], each: &mut dyn FnMut(&[u8])) {
         for call in calls {
             let written =
-                library::run(&mut self.store, &call.requests, &mut self.replies).expect("the calls are valid");
+                mapcache::run(&mut self.store, &call.requests, &mut self.replies).expect("the calls are valid");
             each(&self.replies[..written]);
         }
     }
@@ -58,17 +61,17 @@ impl Original {
 
     fn answer(&mut self, request: Request) {
         match request {
-            Request::Get { key } => match self.cache.get(&key) {
-                Some(value) => Reply::Hit { value: *value }.write(&mut self.replies),
+            Request::Get(guest) => match self.cache.get(&guest.0) {
+                Some(value) => Reply::Hit(PhysicalBlock(*value)).write(&mut self.replies),
                 None => Reply::Nothing.write(&mut self.replies),
             },
-            Request::Insert { key, value } => {
+            Request::Insert(guest, physical) => {
                 let full = self.cache.len() == self.cache.capacity();
-                match self.cache.insert(key, value) {
-                    Some(value) => Reply::Replaced { value }.write(&mut self.replies),
+                match self.cache.insert(guest.0, physical.0) {
+                    Some(value) => Reply::Replaced(PhysicalBlock(value)).write(&mut self.replies),
                     None => {
                         if full {
-                            Reply::LeftSmall { key: 0, value: 0 }.write(&mut self.replies);
+                            SOME_PAIR_LEFT.write(&mut self.replies);
                         }
                         Reply::New { pops: 0 }.write(&mut self.replies);
                     },

@@ -1,8 +1,8 @@
 //! Times, of both sides in turn in the same run. Of some rounds the quickest counts: what else the machine does only adds.
 
 use crate::input::Input;
-use crate::sides::{Original, Ours, Side};
-use original::records::Reply;
+use crate::sides::{Original, Ours, SOME_PAIR_LEFT, Side};
+use mapcache::Reply;
 use std::hint::black_box;
 use std::time::{Duration, Instant};
 
@@ -34,7 +34,7 @@ pub fn compare(input: &Input) -> f64 {
     Ours::new(input).run(&input.calls, &mut |replies| ours.extend(known(replies)));
     Original::new(input).run(&input.calls, &mut |replies| original.extend(known(replies)));
     assert!(!ours.is_empty() && ours == original, "the replies differ");
-    let hits = ours.iter().filter(|reply| matches!(reply, Reply::Hit { .. })).count();
+    let hits = ours.iter().filter(|reply| matches!(reply, Reply::Hit(_))).count();
     let misses = ours.iter().filter(|reply| matches!(reply, Reply::Nothing)).count();
     hits as f64 / (hits + misses) as f64
 }
@@ -43,7 +43,7 @@ pub fn compare(input: &Input) -> f64 {
 fn known(replies: &[u8]) -> Vec<Reply> {
     let replies = Reply::read_all(replies).expect("replies are records");
     let forget = |reply| match reply {
-        Reply::LeftSmall { .. } | Reply::LeftMain { .. } => Reply::LeftSmall { key: 0, value: 0 },
+        Reply::LeftSmall(_) | Reply::LeftMain(_) => SOME_PAIR_LEFT,
         Reply::New { .. } => Reply::New { pops: 0 },
         reply => reply,
     };

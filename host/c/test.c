@@ -1,12 +1,13 @@
-/* A host in C: the worked traces, every refusal on both sides of its limit, and random calls with a ledger.
+/* A host in C: the worked traces, the recorded steps with every refusal on both sides of its limit, and random calls with
+ * a ledger.
  *
  * Each buffer of a call is a heap block of exactly its length, so that the address sanitizer sees a byte too many
  * on this side, and valgrind one inside the library.
  *
- * usage: test [random calls [file]]: the file gets the store as trace D leaves it, for tools that read stores. */
+ * usage: test STEPS [random calls [file]]: STEPS is what tools/make_calls.py writes; the file gets the store as trace D
+ * leaves it, for tools that read stores. */
 #include "mapcache.h"
 
-#include <math.h>
 #include <stdio.h>
 #include <stdlib.h>
 #include <string.h>
@@ -208,72 +209,119 @@ static void clear_and_largest(void)
     free(s.bytes);
 }
 
-/* ---- refusals */
+/* ---- recorded steps: what tools/make_calls.py has from the scope document, whichever refusals those are */
 
-static void refuses_to_create(int number, uint64_t capacity, double small_ratio, double ghost_ratio, size_t len)
+enum { FILL, LAY, CREATE, RUN };
+#define STEP_BYTES 32
+#define REFUSALS 256
+
+/* Six numbers of 4 bytes and one of 8, then as many bytes given and wanted as they say. */
+struct step {
+    uint32_t kind, store_len, room, number;
+    struct buffer given, wanted;
+    uint64_t detail;
+};
+
+static uint32_t word_at(const uint8_t *p)
 {
-    struct buffer store = block(len, 0xA5), before = copy(store);
-    CHECK(mapcache_create(capacity, small_ratio, ghost_ratio, store.bytes, store.len) == -number);
-    CHECK(same(store, before));
+    return p[0] | (uint32_t)p[1] << 8 | (uint32_t)p[2] << 16 | (uint32_t)p[3] << 24;
+}
+
+static double ratio_at(const uint8_t *p)
+{
+    uint64_t bits = number_at(p);
+    double ratio;
+    memcpy(&ratio, &bits, sizeof ratio);
+    return ratio;
+}
+
+static struct buffer file_read(const char *path)
+{
+    FILE *in = fopen(path, "rb");
+    long len = in != NULL && fseek(in, 0, SEEK_END) == 0 ? ftell(in) : -1;
+    if (len < 0) {
+        fprintf(stderr, "test.c: %s cannot be read\n", path);
+        exit(2);
+    }
+    struct buffer all = block((size_t)len, 0);
+    rewind(in);
+    CHECK(fread(all.bytes, 1, all.len, in) == all.len);
+    fclose(in);
+    return all;
+}
+
+/* The step at this place; one that is cut ends the test. */
+static struct step step_at(struct buffer all, size_t at)
+{
+    const size_t left = all.len - at;
+    struct step s = {0, 0, 0, 0, {all.bytes, 0}, {all.bytes, 0}, 0};
+    if (left >= STEP_BYTES) {
+        const uint8_t *p = all.bytes + at;
+        s.kind = word_at(p), s.store_len = word_at(p + 4), s.room = word_at(p + 8), s.number = word_at(p + 12);
+        s.given.len = word_at(p + 16), s.wanted.len = word_at(p + 20), s.detail = number_at(p + 24);
+        s.given.bytes = all.bytes + at + STEP_BYTES;
+        s.wanted.bytes = s.given.bytes + s.given.len;
+    }
+    if (left < STEP_BYTES || left - STEP_BYTES < s.given.len + s.wanted.len) {
+        fprintf(stderr, "test.c: the step at byte %zu is cut short\n", at);
+        exit(2);
+    }
+    return s;
+}
+
+/* Creation in the memory's first bytes, which are lent as a block of their own. */
+static void step_create(struct step s, struct buffer memory)
+{
+    struct buffer front = {memory.bytes, s.store_len}, store = copy(front);
+    const uint8_t *settings = s.given.bytes + 2;
+    int64_t answer = mapcache_create(number_at(settings), ratio_at(settings + 8), ratio_at(settings + 16), store.bytes, store.len);
+    CHECK(answer == -(int64_t)s.number);
+    if (answer != 0)
+        CHECK(same(store, front));
+    memcpy(front.bytes, store.bytes, store.len);
     free(store.bytes);
-    free(before.bytes);
 }
 
-static void creations_refused(void)
+static void step_run(struct step s, struct buffer memory)
 {
-    const size_t len = MAPCACHE_STORE_BYTES;
-    refuses_to_create(MAPCACHE_CAPACITY_ZERO, 0, NAN, NAN, 0);
-    refuses_to_create(MAPCACHE_CAPACITY_LARGE, 1025, NAN, NAN, 0);
-    refuses_to_create(MAPCACHE_CAPACITY_LARGE, UINT64_MAX, 0.1, 0.9, len);
-    refuses_to_create(MAPCACHE_SMALL_RATIO_BAD, 1024, NAN, NAN, 0);
-    refuses_to_create(MAPCACHE_SMALL_RATIO_BAD, 1, INFINITY, 0.9, len);
-    refuses_to_create(MAPCACHE_SMALL_RATIO_BAD, 1, 1.0000000000000002, 0.9, len);
-    refuses_to_create(MAPCACHE_SMALL_RATIO_BAD, 1, -0.0, 0.9, len);
-    refuses_to_create(MAPCACHE_GHOST_RATIO_BAD, 1, 1.0, NAN, 0);
-    refuses_to_create(MAPCACHE_GHOST_RATIO_BAD, 1, 1.0, INFINITY, len);
-    refuses_to_create(MAPCACHE_GHOST_RATIO_BAD, 1, 1.0, -0.0, len);
-    refuses_to_create(MAPCACHE_GHOST_LIMIT_LARGE, 1024, 0.1, 1.00048828125, 0);
-    refuses_to_create(MAPCACHE_GHOST_LIMIT_LARGE, 1024, 0.1, 1.7e308, len);
-    refuses_to_create(MAPCACHE_STORE_SHORT, 1024, 1.0, 1.0, len - 1);
-    refuses_to_create(MAPCACHE_STORE_SHORT, 1, 0.0, 0.0, 0);
-}
-
-static void is_refused(int number, uint64_t with, struct buffer store, struct buffer requests, size_t reply_len)
-{
-    struct buffer replies = block(reply_len, 0xEE);
+    struct buffer front = {memory.bytes, s.store_len}, store = copy(front);
+    struct buffer requests = copy(s.given), replies = block(s.room, 0xEE);
     uint64_t detail;
-    CHECK(run(store, requests, replies, &detail) == -number);
-    CHECK(detail == with);
-    free(replies.bytes);
+    int64_t answer = run(store, requests, replies, &detail);
+    if (s.number == 0)
+        CHECK(answer == (int64_t)s.wanted.len && memcmp(replies.bytes, s.wanted.bytes, s.wanted.len) == 0);
+    else
+        CHECK(answer == -(int64_t)s.number && detail == s.detail);
+    memcpy(front.bytes, store.bytes, store.len);
+    free(store.bytes), free(requests.bytes), free(replies.bytes);
 }
 
-static void runs_refused(void)
+static void recorded_steps(const char *path)
 {
-    struct buffer store = created(2, 0.1, 0.9, MAPCACHE_STORE_BYTES);
-    struct buffer insert = written(RECORDS(IN(1, 10))), insert_short = {insert.bytes, 17};
-    struct buffer unknown = written(RECORDS(GT(1), {"XX", 0, 0, 0}, GT(2)));
-    struct buffer most = block(MAPCACHE_MOST_REQUEST_BYTES, 0), long_one = block(MAPCACHE_MOST_REQUEST_BYTES + 1, 0);
-    struct buffer short_store = {store.bytes, store.len - 1}, nothing = {insert.bytes, 0};
-    for (size_t i = 0; i < most.len; i += 2)
-        memcpy(most.bytes + i, "CL", 2);
-
-    is_refused(MAPCACHE_STORE_SHORT, 0, short_store, long_one, 0);
-    is_refused(MAPCACHE_REQUESTS_LONG, 0, store, long_one, 0);
-    is_refused(MAPCACHE_RECORD_BAD, 10, store, unknown, 0);
-    is_refused(MAPCACHE_RECORD_BAD, 0, store, insert_short, 28);
-    is_refused(MAPCACHE_REPLIES_SHORT, 28, store, insert, 27);
-    is_refused(MAPCACHE_REPLIES_SHORT, 32768, store, most, 32767);
-
-    struct buffer replies = block(32768, 0xEE);
-    uint64_t detail;
-    CHECK(run(store, most, replies, &detail) == 32768);
-    CHECK(run(store, nothing, nothing, &detail) == 0);
-    replies.len = 28;
-    CHECK(run(store, insert, replies, &detail) == 10);
-
-    store.bytes[0] ^= 4; /* another capacity than the one that the lists are made for */
-    is_refused(MAPCACHE_STORE_DAMAGED, 0, store, long_one, 0);
-    free(store.bytes), free(insert.bytes), free(unknown.bytes), free(most.bytes), free(long_one.bytes), free(replies.bytes);
+    struct buffer all = file_read(path), memory = block(MAPCACHE_STORE_BYTES + 100, 0);
+    unsigned long steps = 0, refused[REFUSALS] = {0};
+    for (size_t at = 0; at < all.len; steps++) {
+        struct step s = step_at(all, at);
+        at += STEP_BYTES + s.given.len + s.wanted.len;
+        CHECK(s.kind <= RUN && s.number < REFUSALS && s.store_len <= memory.len);
+        if (s.kind == FILL)
+            memset(memory.bytes, (int)s.number, memory.len);
+        else if (s.kind == LAY)
+            memcpy(memory.bytes + s.room, s.given.bytes, s.given.len);
+        else if (s.kind == CREATE)
+            step_create(s, memory);
+        else
+            step_run(s, memory);
+        refused[s.kind >= CREATE ? s.number : 0]++;
+    }
+    unsigned last = REFUSALS - 1;
+    while (last > 0 && refused[last] == 0)
+        last--;
+    CHECK(last > 0);
+    for (unsigned number = 1; number <= last; number++)
+        CHECK(refused[number] > 0);
+    printf("c host: %lu recorded steps, refusals 1 to %u among them\n", steps, last);
+    free(all.bytes), free(memory.bytes);
 }
 
 static void surplus_is_untouched(void)
@@ -397,14 +445,17 @@ static void random_calls(unsigned long calls)
 
 int main(int argc, char **argv)
 {
-    unsigned long calls = argc > 1 ? strtoul(argv[1], NULL, 10) : 20000;
+    if (argc < 2) {
+        fprintf(stderr, "usage: test STEPS [random calls [file]]\n");
+        return 2;
+    }
+    unsigned long calls = argc > 2 ? strtoul(argv[2], NULL, 10) : 20000;
     CHECK(mapcache_store_bytes() == MAPCACHE_STORE_BYTES);
     trace_a();
-    traces_b_to_e(argc > 2 ? argv[2] : NULL);
+    traces_b_to_e(argc > 3 ? argv[3] : NULL);
     traces_f_to_h();
     clear_and_largest();
-    creations_refused();
-    runs_refused();
+    recorded_steps(argv[1]);
     surplus_is_untouched();
     random_calls(calls);
     printf("c host: %lu checks, %lu failed\n", checks, failures);

@@ -1,5 +1,6 @@
-//! Writes the crate root that names the original's files where they stand. With the feature `observe` the policy is
-//! compiled from a copy that differs by one declaration at its end: src/observe.rs is its child module.
+//! Writes the crate root that names the original's files where they stand. They stay as they are, so lints are off
+//! there. With the feature `observe` the policy is compiled from a copy that differs by one declaration at its end:
+//! src/observe.rs is its child module.
 
 use std::env;
 use std::fs;
@@ -58,7 +59,7 @@ fn with_child_module(policy: &Path, out: &Path) -> PathBuf {
 fn root(sources: &Path, policy: &Path) -> String {
     let module = |file: &str, name: &str| format!("#[path = {:?}] pub mod {name};", sources.join(file));
     format!(
-        "#[allow(dead_code)] pub mod ds {{
+        "#[allow(dead_code, clippy::all)] pub mod ds {{
             {ghost_list}
             {intrusive_list}
             {slot_arena}
@@ -66,15 +67,15 @@ fn root(sources: &Path, policy: &Path) -> String {
             pub use intrusive_list::IntrusiveList;
             pub use slot_arena::{{SlotArena, SlotId}};
         }}
-        {error}
-        {traits}
-        #[cfg(feature = \"metrics\")] #[allow(dead_code)] pub mod metrics {{
+        #[allow(clippy::all)] {error}
+        #[allow(clippy::all)] {traits}
+        #[cfg(feature = \"metrics\")] #[allow(dead_code, clippy::all)] pub mod metrics {{
             {cell}
             {metrics_impl}
             {snapshot}
             {metrics_traits}
         }}
-        pub mod policy {{ #[path = {policy:?}] pub mod s3_fifo; }}
+        #[allow(clippy::all)] pub mod policy {{ #[path = {policy:?}] pub mod s3_fifo; }}
         ",
         ghost_list = module("ds/ghost_list.rs", "ghost_list"),
         intrusive_list = module("ds/intrusive_list.rs", "intrusive_list"),

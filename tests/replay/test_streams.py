@@ -4,31 +4,20 @@
 usage: REPLAY=program python3 test_streams.py
 """
 import os
-import struct
 import subprocess
+import sys
 import tempfile
 import time
 import unittest
 
+sys.dont_write_bytecode = True  # the repository stays as it is
+sys.path.insert(0, os.path.join(os.path.dirname(os.path.abspath(__file__)), "../../tools"))
+from make_calls import CL, EV, IN, MOST_REQUEST_BYTES, OK, no, settings  # noqa: E402
+
 REPLAY = os.environ["REPLAY"]
-SETTINGS_BYTES = 26
-MOST_REQUEST_BYTES = 32768
-
-
-def settings(capacity, small_ratio=0.1, ghost_ratio=0.9):
-    return b"CF" + struct.pack("<Qdd", capacity, small_ratio, ghost_ratio)
-
-
-def insert(key, value):
-    return b"IN" + struct.pack("<QQ", key, value)
-
-
-def refusal(number, detail):
-    return b"NO" + struct.pack("<BQ", number, detail)
-
 
 # trace A, and its answer as document 01 writes it out
-TRACE = settings(1) + insert(7, 70) + insert(8, 80) + insert(7, 71)
+TRACE = settings(1) + IN(7, 70) + IN(8, 80) + IN(7, 71)
 ANSWER = bytes.fromhex(
     "4E57" + "00" * 8
     + "4553" + "07" + "00" * 7 + "46" + "00" * 7 + "4E57" + "01" + "00" * 7
@@ -58,20 +47,20 @@ class Streams(unittest.TestCase):
         program.wait()
 
     def test_no_input(self):
-        self.assertEqual(run(b"").stdout, refusal(9, 0))
+        self.assertEqual(run(b"").stdout, no(9))
 
     def test_no_more_is_read_than_can_be_accepted(self):
         with tempfile.TemporaryFile() as file:
-            file.write(settings(1) + b"EV" * 100000)
+            file.write(settings(1) + EV * 100000)
             file.flush()
             file.seek(0)
             done = subprocess.run([REPLAY], stdin=file, capture_output=True, timeout=60)
-            self.assertEqual(done.stdout, refusal(8, 0))
-            self.assertEqual(os.lseek(file.fileno(), 0, os.SEEK_CUR), SETTINGS_BYTES + MOST_REQUEST_BYTES + 1)
+            self.assertEqual(done.stdout, no(8))
+            self.assertEqual(os.lseek(file.fileno(), 0, os.SEEK_CUR), len(settings(1)) + MOST_REQUEST_BYTES + 1)
 
     def test_the_most_that_is_accepted(self):
-        done = run(settings(1) + b"CL" * (MOST_REQUEST_BYTES // 2))
-        self.assertEqual(done.stdout, b"OK" * (MOST_REQUEST_BYTES // 2))
+        done = run(settings(1) + CL * (MOST_REQUEST_BYTES // 2))
+        self.assertEqual(done.stdout, OK * (MOST_REQUEST_BYTES // 2))
 
     def test_a_read_that_fails(self):
         folder = os.open(".", os.O_RDONLY)  # a folder opens, and its first read fails

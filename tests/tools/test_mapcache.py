@@ -1,9 +1,11 @@
 """tools/mapcache as people use it: run in a shell's place, with files and pipes.
 
-The store of trace D that `show` is tried on is named by the environment variable STORE (host/c/test.c writes it)."""
+The store of trace D that `show` is tried on is named by the environment variable STORE (host/c/test.c writes it), the header
+by HEADER."""
 
 import os
 import random
+import re
 import struct
 import subprocess
 import sys
@@ -150,23 +152,29 @@ class Replies(unittest.TestCase):
 
 
 class Explain(unittest.TestCase):
-    def test_every_refusal(self):
+    @classmethod
+    def setUpClass(cls):
+        with open(os.environ["HEADER"], encoding="utf-8") as file:
+            cls.numbers = [int(number) for number in re.findall(r"^    MAPCACHE_\w+ = (\d+)", file.read(), re.M)]
+
+    def test_every_refusal_of_the_header(self):
+        self.assertEqual(self.numbers, list(range(1, len(self.numbers) + 1)))
         texts = set()
-        for refusal in range(1, 11):
+        for refusal in self.numbers:
             status, text, _ = mapcache("explain", str(refusal))
             self.assertEqual(status, 0)
             self.assertTrue(text.startswith(f"refusal {refusal}: ".encode()))
             texts.add(text.split(b":", 1)[1])
-        self.assertEqual(len(texts), 10)
+        self.assertEqual(len(texts), len(self.numbers))
 
     def test_details(self):
         self.assertIn(b"detail 28: the reply bytes", mapcache("explain", "10", "28")[1])
         self.assertIn(b"line 6 of the trace: get 1", mapcache("explain", "9", "18", "--trace", EXAMPLE)[1])
 
     def test_no_such_refusal(self):
-        status, _, said = mapcache("explain", "11")
+        status, _, said = mapcache("explain", str(self.numbers[-1] + 1))
         self.assertEqual(status, 1)
-        self.assertIn("numbered 1 to 10", said)
+        self.assertIn(f"numbered 1 to {self.numbers[-1]}", said)
 
 
 class Show(unittest.TestCase):
@@ -219,10 +227,15 @@ Ghosts limit 2    newest > (3) > oldest
 
 class Usage(unittest.TestCase):
     def test_help(self):
-        for words in [["--help"], *([command, "--help"] for command in ["encode", "decode", "replies", "explain", "show"])]:
+        for words in [["--help"], *([command, "--help"] for command in ["encode", "decode", "replies", "explain", "show", "constants"])]:
             status, text, said = mapcache(*words)
             self.assertEqual((status, said), (0, ""))
             self.assertIn(b"usage: mapcache", text)
+
+    def test_version(self):
+        script = os.path.join(os.path.dirname(TOOL), "version")
+        version = subprocess.run([script], capture_output=True, check=True).stdout
+        self.assertEqual(mapcache("--version"), (0, b"mapcache " + version, ""))
 
     def test_bad_usage(self):
         for words in [[], ["paint"], ["explain"]]:

@@ -1,9 +1,10 @@
 //! The cache with typed requests and answers.
 
+use crate::answer::{Answer, Evicted, Inserted, Replies, strange};
 use crate::blocks::{GuestBlock, PhysicalBlock};
-use crate::call::{self, Settings, MOST_REQUEST_BYTES};
-use crate::record::{strange, Answer, Evicted, Inserted, Replies, Request};
+use crate::call::{self, MOST_REQUEST_BYTES, Settings};
 use crate::refusal::Refusal;
+use crate::request::Request;
 
 /// A cache in a store `S`: a lent `&mut [u8]`, a `Vec<u8>`, a `Box<[u8]>`, or anything else that gives bytes.
 ///
@@ -44,6 +45,7 @@ impl<S: AsMut<[u8]>> Cache<S> {
     }
 
     /// The store, with the cache in it.
+    #[must_use]
     pub fn into_store(self) -> S {
         self.store
     }

@@ -2,12 +2,25 @@
 
 use crate::ffi;
 use crate::refusal::Refusal;
+use std::fmt;
+
+/// The version of the interface that this crate is for, as in the header and the pkg-config file.
+pub const VERSION: &str = env!("MAPCACHE_VERSION");
 
 /// The largest capacity, and the largest ghost limit.
 pub const MOST: u64 = 1024;
 
 /// The most request bytes that one call takes.
 pub const MOST_REQUEST_BYTES: usize = 32_768;
+
+/// Small's limit as a part of the capacity, where nothing else is asked for.
+pub const DEFAULT_SMALL_RATIO: f64 = 0.1;
+
+/// The ghost limit as a part of the capacity, where nothing else is asked for.
+pub const DEFAULT_GHOST_RATIO: f64 = 0.9;
+
+/// The largest frequency that a pair reaches.
+pub const MAX_FREQ: u8 = 3;
 
 /// What a cache is made with.
 #[derive(Clone, Copy, Debug, PartialEq)]
@@ -22,13 +35,21 @@ pub struct Settings {
 
 impl Settings {
     /// The default ratios.
+    #[must_use]
     pub fn with_capacity(capacity: u64) -> Settings {
-        Settings { capacity, small_ratio: 0.1, ghost_ratio: 0.9 }
+        Settings { capacity, small_ratio: DEFAULT_SMALL_RATIO, ghost_ratio: DEFAULT_GHOST_RATIO }
+    }
+}
+
+impl fmt::Display for Settings {
+    fn fmt(&self, f: &mut fmt::Formatter<'_>) -> fmt::Result {
+        write!(f, "capacity {}, small ratio {:?}, ghost ratio {:?}", self.capacity, self.small_ratio, self.ghost_ratio)
     }
 }
 
 /// The bytes that a store needs. A longer store is allowed; the surplus is neither read nor written.
 #[allow(unsafe_code)]
+#[must_use]
 pub fn store_bytes() -> usize {
     // SAFETY: the call takes nothing and touches no memory.
     let bytes = unsafe { ffi::mapcache_store_bytes() };
@@ -36,6 +57,10 @@ pub fn store_bytes() -> usize {
 }
 
 /// Makes the store an empty cache.
+///
+/// # Panics
+///
+/// Where the library refuses with a number that this crate does not know: it is of another version.
 #[allow(unsafe_code)]
 pub fn create(settings: Settings, store: &mut [u8]) -> Result<(), Refusal> {
     let Settings { capacity, small_ratio, ghost_ratio } = settings;
@@ -49,6 +74,10 @@ pub fn create(settings: Settings, store: &mut [u8]) -> Result<(), Refusal> {
 
 /// Runs the requests, which are bytes, and answers how many reply bytes were written. [`Cache`](crate::Cache) does
 /// the same with typed requests and answers.
+///
+/// # Panics
+///
+/// Where the library refuses with a number that this crate does not know: it is of another version.
 #[allow(unsafe_code)]
 pub fn run(store: &mut [u8], requests: &[u8], replies: &mut [u8]) -> Result<usize, Refusal> {
     let mut detail = 0;

@@ -1,15 +1,39 @@
 //! The library's calls as they are. Nothing checks these declarations against the library: they stand side by side
-//! with host/mapcache.h, which also says what each call does and what it assumes.
+//! with the header, host/mapcache.h.in, which also says what each call does. What each assumes is what the header
+//! assumes of every host; the safe functions of this crate cannot break it.
+#![allow(unsafe_code)]
 
-extern "C" {
+unsafe extern "C" {
     /// The bytes that a store needs.
-    pub fn mapcache_store_bytes() -> u64;
+    ///
+    /// # Safety
+    ///
+    /// Nothing is asked of the caller: the call takes nothing and touches no memory.
+    pub unsafe fn mapcache_store_bytes() -> u64;
 
     /// Makes the store an empty cache; 0, or minus the refusal's number.
-    pub fn mapcache_create(capacity: u64, small_ratio: f64, ghost_ratio: f64, store: *mut u8, store_len: usize) -> i64;
+    ///
+    /// # Safety
+    ///
+    /// `store` is not null, also where `store_len` is 0, and `store_len` bytes from it on may be read and written. No
+    /// other thread uses them during the call. Whatever the bytes and the settings hold is judged, not assumed.
+    pub unsafe fn mapcache_create(
+        capacity: u64,
+        small_ratio: f64,
+        ghost_ratio: f64,
+        store: *mut u8,
+        store_len: usize,
+    ) -> i64;
 
     /// Runs the requests; the reply bytes, or minus the refusal's number, whose detail stands in `detail`.
-    pub fn mapcache_run(
+    ///
+    /// # Safety
+    ///
+    /// No pointer is null, also where its length is 0. `store_len` bytes from `store` on and `replies_len` from `replies`
+    /// on may be read and written, `requests_len` from `requests` on may be read, and `detail` may be written as a `u64`.
+    /// None of the four overlaps another, and no other thread uses them during the call. Whatever the bytes hold is
+    /// judged, not assumed.
+    pub unsafe fn mapcache_run(
         store: *mut u8,
         store_len: usize,
         requests: *const u8,

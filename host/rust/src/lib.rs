@@ -37,16 +37,25 @@
 //! ```
 #![deny(unsafe_code)]
 #![warn(missing_docs)]
+#![warn(clippy::must_use_candidate)]
 
+mod answer;
 mod blocks;
 mod cache;
 mod call;
 pub mod ffi;
 mod record;
 mod refusal;
+mod reply;
+mod request;
 
+pub use answer::{Answer, Evicted, Inserted};
 pub use blocks::{GuestBlock, Left, Pair, PhysicalBlock, Queue};
-pub use cache::{in_calls, Cache};
-pub use call::{create, run, store_bytes, Settings, MOST, MOST_REQUEST_BYTES};
-pub use record::{Answer, Evicted, Inserted, Request};
+pub use cache::{Cache, in_calls};
+pub use call::{
+    DEFAULT_GHOST_RATIO, DEFAULT_SMALL_RATIO, MAX_FREQ, MOST, MOST_REQUEST_BYTES, Settings, VERSION, create, run,
+    store_bytes,
+};
 pub use refusal::Refusal;
+pub use reply::Reply;
+pub use request::Request;

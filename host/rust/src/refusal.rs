@@ -3,8 +3,10 @@
 use std::error::Error;
 use std::fmt;
 
-/// Why a call was turned away. A call that is refused has changed nothing.
+/// Why a call was turned away. A call that is refused has changed nothing. More reasons may come with a later version.
 #[derive(Clone, Copy, Debug, PartialEq, Eq, Hash)]
+#[non_exhaustive]
+#[must_use]
 pub enum Refusal {
     /// 1: the capacity is 0.
     CapacityZero,
@@ -35,7 +37,8 @@ pub enum Refusal {
 }
 
 impl Refusal {
-    /// The refusal that the library names by a number and a detail.
+    /// The refusal that the library names by a number and a detail. A number that is unknown here comes from a library of
+    /// another version; what such a call means cannot be told, so this panics.
     pub(crate) fn of(number: u64, detail: u64) -> Refusal {
         match number {
             1 => Refusal::CapacityZero,
@@ -52,7 +55,8 @@ impl Refusal {
         }
     }
 
-    /// Its number, 1 to 10.
+    /// Its number, as the header lists them.
+    #[must_use]
     pub fn number(&self) -> u8 {
         match self {
             Refusal::CapacityZero => 1,
@@ -69,6 +73,7 @@ impl Refusal {
     }
 
     /// Its detail: an offset, a number of bytes, or 0 where there is none.
+    #[must_use]
     pub fn detail(&self) -> u64 {
         match *self {
             Refusal::BadRecord { offset } => offset,
@@ -99,3 +104,26 @@ impl fmt::Display for Refusal {
 }
 
 impl Error for Refusal {}
+
+#[cfg(test)]
+mod tests {
+    use super::Refusal;
+
+    const LAST: u64 = 10;
+
+    #[test]
+    fn every_number_is_that_of_its_refusal() {
+        for number in 1..=LAST {
+            let refusal = Refusal::of(number, 28);
+            assert_eq!(u64::from(refusal.number()), number);
+            assert!([0, 28].contains(&refusal.detail()), "{refusal:?}");
+            assert!(refusal.to_string().ends_with(&format!("(refusal {number})")), "{refusal}");
+        }
+    }
+
+    #[test]
+    #[should_panic = "it refuses with"]
+    fn a_number_of_another_version_is_not_taken_for_one_of_ours() {
+        let _ = Refusal::of(LAST + 1, 0);
+    }
+}

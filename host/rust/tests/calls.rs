@@ -1,8 +1,8 @@
 //! The wrapper over the archive: the worked traces with types, refusals, and stores that are lent and opened again.
 
 use mapcache::{
-    in_calls, run, store_bytes, Answer, Cache, Evicted, GuestBlock, Inserted, Left, Pair, PhysicalBlock, Queue,
-    Refusal, Request, Settings,
+    Answer, Cache, Evicted, GuestBlock, Inserted, Left, Pair, PhysicalBlock, Queue, Refusal, Reply, Request, Settings,
+    in_calls, run, store_bytes,
 };
 
 fn pair(guest: u64, physical: u64) -> Pair {
@@ -104,23 +104,42 @@ fn calls_are_refused() {
 }
 
 #[test]
-fn every_refusal_says_its_number() {
-    let all = [
-        Refusal::CapacityZero,
-        Refusal::CapacityLarge,
-        Refusal::SmallRatio,
-        Refusal::GhostRatio,
-        Refusal::GhostLimit,
-        Refusal::StoreShort,
-        Refusal::StoreDamaged,
-        Refusal::RequestsLong,
-        Refusal::BadRecord { offset: 4 },
-        Refusal::RepliesShort { needed: 28 },
+fn requests_and_replies_are_read_as_they_are_written() {
+    let (guest, physical) = (GuestBlock(7), PhysicalBlock(u64::MAX));
+    let requests = [
+        Request::Get(guest),
+        Request::Peek(guest),
+        Request::Remove(guest),
+        insert(7, 70),
+        Request::Evict,
+        Request::Clear,
     ];
-    for (refusal, number) in all.iter().zip(1u8..) {
-        assert_eq!(refusal.number(), number);
-        assert!(refusal.to_string().ends_with(&format!("(refusal {number})")), "{refusal}");
+    for request in requests {
+        let mut record = Vec::new();
+        request.write(&mut record);
+        assert_eq!((record.len(), Request::read(&record)), (request.bytes(), Some(request)));
+        assert_eq!(Request::read(&record[..record.len() - 1]), None, "{request} cut short");
     }
+    let replies = [
+        Reply::Nothing,
+        Reply::Hit(physical),
+        Reply::Replaced(physical),
+        Reply::New { pops: 3 },
+        Reply::Gone(physical),
+        Reply::HandedBack(pair(0, 5)),
+        Reply::Done,
+        Reply::LeftSmall(pair(1, 2)),
+        Reply::LeftMain(pair(1, 2)),
+    ];
+    let mut bytes = Vec::new();
+    replies.iter().for_each(|reply| reply.write(&mut bytes));
+    assert_eq!(Reply::read_all(&bytes), Ok(replies.to_vec()));
+    assert_eq!(Reply::read_all(&bytes[..bytes.len() - 1]), Err(bytes.len() - 18));
+    assert_eq!(Reply::read_all(b"OKGT"), Err(2));
+    let text: Vec<String> = replies.iter().map(Reply::to_string).collect();
+    let most = u64::MAX;
+    assert_eq!(text.join(", "), format!("MI, HI {most}, RE {most}, NW 3, GO {most}, EX 0 5, OK, ES 1 2, EM 1 2"));
+    assert_eq!(requests.map(|request| request.to_string()), ["GT 7", "PK 7", "RM 7", "IN 7 70", "EV", "CL"]);
 }
 
 #[test]

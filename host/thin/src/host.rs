@@ -5,9 +5,9 @@
 //! pair but the cache, and a cache that drops one without a word loses it: the next sweep finds its physical block
 //! neither in the map nor resident, takes it for free, and gives it to another guest.
 
+use crate::Result;
 use crate::block_cache::BlockCache;
 use crate::disk::{Disks, MapFile};
-use crate::Result;
 use mapcache::{GuestBlock, Pair, PhysicalBlock, Settings};
 use std::collections::BTreeSet;
 use std::path::Path;
@@ -91,6 +91,11 @@ impl<C: BlockCache> Host<C> {
             self.free.remove(&used);
         }
         Ok(())
+    }
+
+    /// How many physical blocks may be given out before the next sweep.
+    pub fn free(&self) -> usize {
+        self.free.len()
     }
 
     /// Writes one pair or two to the map ahead of need.

@@ -1,16 +1,35 @@
-//! Settings that reach a limit that is asked for.
+//! Settings that reach a limit that is asked for, and settings as bytes.
 
-use crate::random::Random;
-use original::records::Settings;
+use common::Random;
+use mapcache::{DEFAULT_GHOST_RATIO, DEFAULT_SMALL_RATIO, MOST, Settings};
 
-pub const MOST_CAPACITY: u64 = 1024;
-pub const MOST_GHOSTS: u64 = 1024;
-pub const DEFAULT_SMALL_RATIO: f64 = 0.1;
-pub const DEFAULT_GHOST_RATIO: f64 = 0.9;
+/// The largest limits that ours takes.
+pub const MOST_CAPACITY: u64 = MOST;
+pub const MOST_GHOSTS: u64 = MOST;
 
-/// The default ratios.
-pub fn default_of(capacity: u64) -> Settings {
-    Settings { capacity, small_ratio: DEFAULT_SMALL_RATIO, ghost_ratio: DEFAULT_GHOST_RATIO }
+const MARK: &[u8; 2] = b"CF";
+
+/// The record CF, which the replay program reads first: a mark, the capacity, and the bits of the two ratios.
+pub fn write(settings: Settings, out: &mut Vec<u8>) {
+    let Settings { capacity, small_ratio, ghost_ratio } = settings;
+    out.extend_from_slice(MARK);
+    for number in [capacity, small_ratio.to_bits(), ghost_ratio.to_bits()] {
+        out.extend_from_slice(&number.to_le_bytes());
+    }
+}
+
+/// The settings of a record CF and the bytes behind it; none where no whole one stands there.
+pub fn read(bytes: &[u8]) -> Option<(Settings, &[u8])> {
+    let (capacity, rest) = number(bytes.strip_prefix(MARK)?)?;
+    let (small_ratio, rest) = number(rest)?;
+    let (ghost_ratio, rest) = number(rest)?;
+    let [small_ratio, ghost_ratio] = [small_ratio, ghost_ratio].map(f64::from_bits);
+    Some((Settings { capacity, small_ratio, ghost_ratio }, rest))
+}
+
+fn number(bytes: &[u8]) -> Option<(u64, &[u8])> {
+    let (number, rest) = bytes.split_first_chunk::<8>()?;
+    Some((u64::from_le_bytes(*number), rest))
 }
 
 /// The limits given.

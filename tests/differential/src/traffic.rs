@@ -1,7 +1,7 @@
 //! Random requests that keep a cache in interesting places: full, around its limits, with warm entries and known ghosts.
 
-use crate::random::{Random, mix};
-use original::records::{MOST_REQUEST_BYTES, Request};
+use common::{Random, mix};
+use mapcache::{GuestBlock, MOST_REQUEST_BYTES, PhysicalBlock, Request};
 
 /// How often lookups, peeks, removals, inserts and evictions come, in parts of the sum.
 type Mood = [u64; 5];
@@ -120,14 +120,14 @@ impl Traffic {
             return Request::Clear;
         }
         match self.kind() {
-            0 => Request::Get { key: self.key() },
-            1 => Request::Peek { key: self.key() },
-            2 => Request::Remove { key: self.key() },
+            0 => Request::Get(GuestBlock(self.key())),
+            1 => Request::Peek(GuestBlock(self.key())),
+            2 => Request::Remove(GuestBlock(self.key())),
             3 => {
                 let key = self.key();
                 self.recent[self.inserts % self.recent.len()] = key;
                 self.inserts += 1;
-                Request::Insert { key, value: self.value(key) }
+                Request::Insert(GuestBlock(key), PhysicalBlock(self.value(key)))
             },
             _ => Request::Evict,
         }

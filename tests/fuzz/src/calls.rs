@@ -2,10 +2,10 @@
 
 use crate::guard::{Edge, Guarded};
 use crate::layout::{self, Read};
-use crate::verdict::{self, Verdict, STORE_BYTES};
+use crate::verdict::{self, STORE_BYTES, Verdict};
 use crate::watch;
-use mapcache::{ffi, Settings};
-use random::Random;
+use common::Random;
+use mapcache::{Settings, ffi};
 
 /// The longest buffers that are lent.
 pub const MOST_STORE: usize = STORE_BYTES + 8192;
@@ -46,7 +46,7 @@ impl Calls {
         random: &mut Random,
     ) -> Result<Verdict, String> {
         let expected = verdict::of_run(store, requests, replies_len);
-        let filling = random.next() as u8;
+        let filling = random.byte();
         lend(&mut self.store, store, random);
         lend(&mut self.requests, requests, random);
         lend(&mut self.replies, &vec![filling; replies_len], random);
@@ -65,7 +65,8 @@ impl Calls {
 
     /// Creates a cache in the store, which becomes what the call makes of it.
     pub fn create(&mut self, settings: Settings, store: &mut [u8], random: &mut Random) -> Result<Verdict, String> {
-        let expected = verdict::of_create(settings, store.len());
+        let Settings { capacity, small_ratio, ghost_ratio } = settings;
+        let expected = verdict::of_create(capacity, small_ratio, ghost_ratio, store.len());
         lend(&mut self.store, store, random);
         let answer = self.call_create(settings);
         let number = match expected {
@@ -197,7 +198,7 @@ fn parts(buffer: &mut [u8]) -> (*mut u8, usize) {
 }
 
 fn lend(buffer: &mut Guarded, bytes: &[u8], random: &mut Random) {
-    let edge = *random.pick(&[Edge::First, Edge::Last]);
+    let edge = random.pick(&[Edge::First, Edge::Last]);
     buffer.place(bytes.len(), edge);
     buffer.bytes().copy_from_slice(bytes);
 }

@@ -2,10 +2,10 @@
 
 use crate::edit::Edit;
 use crate::layout::{
-    header_cell, Field, Layout, Read, CAPACITY, CHAIN, FIELDS, FREE, GHOSTS, GHOST_LIMIT, HEADER, KEY, LENGTHS, MARK,
-    NEXT, PREV, QUEUE, SENTINELS, SMALL_LIMIT, VALUE,
+    CAPACITY, CHAIN, FIELDS, FREE, Field, GHOST_LIMIT, GHOSTS, HEADER, KEY, LENGTHS, Layout, MARK, NEXT, PREV, QUEUE,
+    Read, SENTINELS, SMALL_LIMIT, VALUE, header_cell,
 };
-use random::Random;
+use common::Random;
 
 #[derive(Clone, Copy, Debug, PartialEq, Eq, Hash, PartialOrd, Ord)]
 pub enum Damage {
@@ -81,23 +81,15 @@ pub const KINDS: [Damage; 21] = [
 pub fn inflict(kind: Damage, store: &mut [u8], other: &[u8], random: &mut Random) {
     let layout = Read::new(store).expect("the store is sound").layout;
     match kind {
-        Damage::Byte => store[random.index(layout.used())] = random.next() as u8,
+        Damage::Byte => store[random.index(layout.used())] = random.byte(),
         Damage::Bit => store[random.index(layout.used())] ^= 1 << random.below(8),
-        Damage::Limit => set_header(store, *random.pick(&[CAPACITY, SMALL_LIMIT, GHOST_LIMIT]), random),
+        Damage::Limit => set_header(store, random.pick(&[CAPACITY, SMALL_LIMIT, GHOST_LIMIT]), random),
         Damage::Length => set_header(store, LENGTHS + random.index(4), random),
         Damage::Link => lead_elsewhere(store, layout, random),
         Damage::Tag => store[layout.field(random.index(layout.nodes), QUEUE).start] = random.below(6) as u8,
         Damage::Frequency => store[layout.field(random.index(layout.nodes), MARK).start] = random.below(9) as u8,
-        Damage::CopiedKey => {
-            let from = layout.field(random.index(layout.nodes), KEY);
-            let to = layout.field(random.index(layout.nodes), KEY);
-            store.copy_within(from, to.start);
-        },
-        Damage::SwappedField => {
-            let field: Field = *random.pick(&FIELDS);
-            let (a, b) = (random.index(layout.nodes + SENTINELS), random.index(layout.nodes + SENTINELS));
-            swap(store, layout.field(a, field).start, layout.field(b, field).start, field.width);
-        },
+        Damage::CopiedKey => copy_key(store, layout, random),
+        Damage::SwappedField => swap_fields(store, layout, random),
         Damage::SwappedNodes => {
             let (a, b) = (random.index(layout.nodes + SENTINELS), random.index(layout.nodes + SENTINELS));
             swap(store, layout.node(a).start, layout.node(b).start, layout.node(a).len());
@@ -108,17 +100,8 @@ pub fn inflict(kind: Damage, store: &mut [u8], other: &[u8], random: &mut Random
         },
         Damage::LostNode => Edit { store, layout }.detach(random.index(layout.nodes)),
         Damage::MovedNodes => move_nodes(Edit { store, layout }, random),
-        Damage::TradedLimits => {
-            let change = random.from(1, 3) as i64 * *random.pick(&[1, -1]);
-            let mut edit = Edit { store, layout };
-            edit.add_to_header(CAPACITY, change);
-            edit.add_to_header(GHOST_LIMIT, -change);
-        },
-        Damage::Shifted => {
-            let (from, to) = (random.index(layout.used()), random.index(layout.used()));
-            let len = random.index(64).min(layout.used() - from.max(to));
-            store.copy_within(from..from + len, to);
-        },
+        Damage::TradedLimits => trade_limits(Edit { store, layout }, random),
+        Damage::Shifted => shift(store, layout, random),
         Damage::Spliced => {
             let cut = random.index(layout.used());
             let len = store.len().min(other.len());
@@ -132,10 +115,34 @@ pub fn inflict(kind: Damage, store: &mut [u8], other: &[u8], random: &mut Random
     }
 }
 
+fn copy_key(store: &mut [u8], layout: Layout, random: &mut Random) {
+    let from = layout.field(random.index(layout.nodes), KEY);
+    let to = layout.field(random.index(layout.nodes), KEY);
+    store.copy_within(from, to.start);
+}
+
+fn swap_fields(store: &mut [u8], layout: Layout, random: &mut Random) {
+    let field: Field = random.pick(&FIELDS);
+    let (a, b) = (random.index(layout.nodes + SENTINELS), random.index(layout.nodes + SENTINELS));
+    swap(store, layout.field(a, field).start, layout.field(b, field).start, field.width);
+}
+
+fn trade_limits(mut edit: Edit, random: &mut Random) {
+    let change = random.between(1, 3) as i64 * random.pick(&[1, -1]);
+    edit.add_to_header(CAPACITY, change);
+    edit.add_to_header(GHOST_LIMIT, -change);
+}
+
+fn shift(store: &mut [u8], layout: Layout, random: &mut Random) {
+    let (from, to) = (random.index(layout.used()), random.index(layout.used()));
+    let len = random.index(64).min(layout.used() - from.max(to));
+    store.copy_within(from..from + len, to);
+}
+
 fn set_header(store: &mut [u8], cell: usize, random: &mut Random) {
     let now = crate::layout::number(&store[header_cell(cell)]);
     let any = random.below(2000);
-    let to = *random.pick(&[0, now.wrapping_sub(1), now + 1, 1023, 1024, 1025, any, 1 << 32 | now, 1 << 63, u64::MAX]);
+    let to = random.pick(&[0, now.wrapping_sub(1), now + 1, 1023, 1024, 1025, any, 1 << 32 | now, 1 << 63, u64::MAX]);
     store[header_cell(cell)].copy_from_slice(&to.to_le_bytes());
 }
 

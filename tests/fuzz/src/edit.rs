@@ -1,6 +1,6 @@
 //! Changes to a store that keep its lists whole, so that the damage lies elsewhere.
 
-use crate::layout::{header_cell, number, Field, Layout, LENGTHS, NEXT, PREV, QUEUE};
+use crate::layout::{Field, LENGTHS, Layout, NEXT, PREV, QUEUE, header_cell, number};
 
 pub struct Edit<'a> {
     pub store: &'a mut [u8],

@@ -19,7 +19,7 @@ const PROT_WRITE: c_int = 2;
 const MAP_PRIVATE: c_int = 2;
 const MAP_ANONYMOUS: c_int = 0x20;
 
-extern "C" {
+unsafe extern "C" {
     fn mmap(at: *mut c_void, len: usize, prot: c_int, flags: c_int, fd: c_int, offset: i64) -> *mut c_void;
     fn mprotect(at: *mut c_void, len: usize, prot: c_int) -> c_int;
 }
@@ -84,11 +84,7 @@ impl Guarded {
     }
 
     fn beside(&self) -> std::ops::Range<usize> {
-        if self.start == 0 {
-            self.len..(self.len + MARGIN).min(self.room)
-        } else {
-            self.start - MARGIN..self.start
-        }
+        if self.start == 0 { self.len..(self.len + MARGIN).min(self.room) } else { self.start - MARGIN..self.start }
     }
 
     fn all(&mut self) -> &mut [u8] {

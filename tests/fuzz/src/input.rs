@@ -1,15 +1,15 @@
 //! Settings and requests, fit and unfit.
 
 use crate::verdict::MOST_REQUEST_BYTES;
+use common::Random;
 use mapcache::{GuestBlock, PhysicalBlock, Request, Settings};
-use random::Random;
 
 /// Numbers on both sides of what is tested, and any.
 pub fn settings(random: &mut Random) -> Settings {
     let capacity = match random.below(8) {
-        0 => *random.pick(&[0, 1, 2, 1023, 1024, 1025, 1 << 32, 1 << 63, u64::MAX]),
-        1 => random.from(1, 1024),
-        _ => random.from(1, 12),
+        0 => random.pick(&[0, 1, 2, 1023, 1024, 1025, 1 << 32, 1 << 63, u64::MAX]),
+        1 => random.between(1, 1024),
+        _ => random.between(1, 12),
     };
     Settings { capacity, small_ratio: ratio(random, capacity), ghost_ratio: ratio(random, capacity) }
 }
@@ -18,17 +18,17 @@ pub fn settings(random: &mut Random) -> Settings {
 pub fn fit_settings(random: &mut Random) -> Settings {
     let capacity = match random.below(40) {
         0 => 1024,
-        1..=3 => random.from(1, 1024),
-        _ => random.from(1, 12),
+        1..=3 => random.between(1, 1024),
+        _ => random.between(1, 12),
     };
     let ghost_limit = match random.below(8) {
         0 => 0,
         1 => random.below(1025).min(4 * capacity),
-        _ => random.from(0, capacity),
+        _ => random.between(0, capacity),
     };
     Settings {
         capacity,
-        small_ratio: random.from(0, 20) as f64 / 20.0,
+        small_ratio: random.between(0, 20) as f64 / 20.0,
         ghost_ratio: ghost_limit as f64 / capacity as f64,
     }
 }
@@ -53,8 +53,8 @@ fn ratio(random: &mut Random, capacity: u64) -> f64 {
         0.9,
     ];
     match random.below(8) {
-        0 | 1 => *random.pick(&SPECIAL),
-        2 => f64::from_bits(random.next()),
+        0 | 1 => random.pick(&SPECIAL),
+        2 => f64::from_bits(random.number()),
         // the product is just a half below or above a whole number, or near 1,024.5
         3 => (random.below(1026) as f64 + 0.5) / capacity.max(1) as f64,
         _ => random.below(21) as f64 / 20.0,
@@ -113,20 +113,20 @@ pub fn longest_requests(random: &mut Random, keys: u64) -> Vec<u8> {
 
 /// Records that are cut, garbled, or no records at all.
 pub fn bad_requests(random: &mut Random, keys: u64) -> Vec<u8> {
-    let count = random.from(1, 12);
+    let count = random.between(1, 12);
     let mut bytes = requests(random, keys, count);
     match random.below(6) {
         0 => bytes.truncate(random.index(bytes.len())),
         1 => {
             let at = random.index(bytes.len());
-            bytes[at] = random.next() as u8;
+            bytes[at] = random.byte();
         },
         2 => {
             let at = random.index(bytes.len());
             bytes.remove(at);
         },
         3 => {
-            let mark = *random.pick(&[b"gt", b"XX", b"CF", b"NO", b"\0\0", b"ES", b"IM", b"GI"]);
+            let mark = random.pick(&[b"gt", b"XX", b"CF", b"NO", b"\0\0", b"ES", b"IM", b"GI"]);
             bytes.extend_from_slice(mark);
         },
         4 => bytes.push(b'E'),

@@ -1,4 +1,5 @@
-//! The store's layout (docs/STORE.md), read anew: which state some bytes hold, or why they hold none.
+//! The store's layout (docs/STORE.md), read anew: which state some bytes hold, or that they hold none. Part of the judge:
+//! it is not the reader of the differential runs, on purpose, as `verdict` says.
 
 use crate::state::{Entry, State};
 use std::collections::VecDeque;
@@ -82,7 +83,7 @@ impl Layout {
     pub fn bucket_of(self, key: u64) -> usize {
         let mixed = ((key >> 32) as u32).wrapping_mul(2_246_822_507).wrapping_add(key as u32);
         let spread = mixed.wrapping_mul(2_654_435_769);
-        (u64::from(spread) * self.buckets() as u64 >> 32) as usize
+        ((u64::from(spread) * self.buckets() as u64) >> 32) as usize
     }
 }
 

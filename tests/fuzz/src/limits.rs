@@ -3,9 +3,9 @@
 use crate::calls::Calls;
 use crate::input;
 use crate::tally::Tally;
-use crate::verdict::{reply_room, MOST_REQUEST_BYTES, STORE_BYTES};
+use crate::verdict::{MOST_REQUEST_BYTES, STORE_BYTES, reply_room};
+use common::Random;
 use mapcache::Settings;
-use random::Random;
 
 /// How far beyond a limit the lengths go, on both sides.
 const AROUND: usize = 9;

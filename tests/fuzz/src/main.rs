@@ -16,10 +16,11 @@ mod verdict;
 mod watch;
 
 use calls::{Calls, MOST_REPLIES, MOST_REQUESTS, MOST_STORE};
-use random::Random;
+use common::Random;
+use common::program::Options;
 use std::process::ExitCode;
 use tally::Tally;
-use verdict::{reply_room, Verdict, MOST_REQUEST_BYTES, STORE_BYTES};
+use verdict::{MOST_REQUEST_BYTES, STORE_BYTES, Verdict, reply_room};
 
 const HELP: &str = "usage: mapcache-fuzz [--seed N] [--calls N]
 Calls the archive with damaged stores, bad requests and buffers of all lengths, and checks every answer.
@@ -28,17 +29,18 @@ Calls the archive with damaged stores, bad requests and buffers of all lengths, 
 Exit status: 0 every call did what it must; 1 one did not, or something was never met; 2 bad usage.";
 
 fn main() -> ExitCode {
-    let (seed, least) = match options(std::env::args().skip(1)) {
-        Ok(Some(options)) => options,
-        Ok(None) => {
-            println!("{HELP}");
-            return ExitCode::SUCCESS;
-        },
-        Err(problem) => {
-            eprintln!("fuzz: {problem}\n{HELP}");
-            return ExitCode::from(2);
-        },
-    };
+    match options() {
+        Ok((seed, least)) => fuzz(seed, least),
+        Err(status) => status,
+    }
+}
+
+fn options() -> Result<(u64, u64), ExitCode> {
+    let options = Options::read("fuzz", HELP, &["--seed", "--calls"])?;
+    Ok((options.number("--seed", 1)?, options.number("--calls", 100_000)?))
+}
+
+fn fuzz(seed: u64, least: u64) -> ExitCode {
     watch::start(seed);
     let mut fuzzer = Fuzzer::new(seed);
     if let Err(problem) = fuzzer.go(least) {
@@ -53,21 +55,6 @@ fn main() -> ExitCode {
         eprintln!("fuzz: {problem}: these calls do not show enough");
     }
     ExitCode::from(u8::from(!missing.is_empty()))
-}
-
-fn options(mut words: impl Iterator<Item = String>) -> Result<Option<(u64, u64)>, String> {
-    let (mut seed, mut calls) = (1, 100_000);
-    while let Some(word) = words.next() {
-        let number = match word.as_str() {
-            "--help" | "-h" => return Ok(None),
-            "--seed" => &mut seed,
-            "--calls" => &mut calls,
-            _ => return Err(format!("no option {word}")),
-        };
-        let value = words.next().ok_or(format!("{word} wants a number"))?;
-        *number = value.parse().map_err(|_| format!("{word} wants a number, not '{value}'"))?;
-    }
-    Ok(Some((seed, calls)))
 }
 
 /// A sound store that goes on from call to call, and an earlier one.
@@ -133,7 +120,7 @@ impl Fuzzer {
 
     fn any_creation(&mut self) -> Result<(), String> {
         let settings = input::settings(&mut self.random);
-        let len = *self.random.pick(&[
+        let len = self.random.pick(&[
             0,
             64,
             STORE_BYTES - 1,
@@ -198,7 +185,7 @@ impl Fuzzer {
 
     /// A copy of the store, damaged. Where it is still sound it must do what its own state says.
     fn damaged_store(&mut self) -> Result<(), String> {
-        let kind = *self.random.pick(&damage::KINDS);
+        let kind = self.random.pick(&damage::KINDS);
         let mut store = self.store.clone();
         let times = if self.random.below(4) == 0 { 2 } else { 1 };
         for _ in 0..times {

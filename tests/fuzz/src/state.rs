@@ -1,4 +1,5 @@
 //! The cache's state as plain lists, and its rules on them: slow, short, and with nothing in common with the archive.
+//! Part of the judge: the types and the records are written again here on purpose, as `verdict` says.
 
 use std::collections::VecDeque;
 

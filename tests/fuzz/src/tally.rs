@@ -1,7 +1,7 @@
 //! What was met, how often; and what must have been met for a run to show anything.
 
 use crate::damage::{Damage, KINDS};
-use crate::verdict::Verdict;
+use crate::verdict::{CREATE_REFUSALS, RUN_REFUSALS, Verdict};
 use std::collections::BTreeMap;
 
 #[derive(Default)]
@@ -18,11 +18,13 @@ struct Met {
     accepted: u64,
 }
 
-/// An accepted call stands under 0, a refused one under its number.
+/// An accepted call stands under this, a refused one under its number.
+const ACCEPTED: u8 = 0;
+
 fn number(verdict: &Verdict) -> u8 {
     match verdict {
         Verdict::Refused { number, .. } => *number,
-        Verdict::Done { .. } => 0,
+        Verdict::Done { .. } => ACCEPTED,
     }
 }
 
@@ -48,10 +50,10 @@ impl Tally {
         for (name, met) in [("create", &self.creations), ("run", &self.runs)] {
             let each: Vec<String> = met
                 .iter()
-                .filter(|(number, _)| **number != 0)
+                .filter(|(number, _)| **number != ACCEPTED)
                 .map(|(number, count)| format!("{number}: {count}"))
                 .collect();
-            println!("  {name}: accepted {}; refused {}", met.get(&0).unwrap_or(&0), each.join(", "));
+            println!("  {name}: accepted {}; refused {}", met.get(&ACCEPTED).unwrap_or(&0), each.join(", "));
         }
         println!("  stores by kind of damage (refused, accepted since still sound):");
         for (kind, met) in &self.damaged {
@@ -62,15 +64,14 @@ impl Tally {
     /// What was not met, of all that must be.
     pub fn missing(&self) -> Vec<String> {
         let mut missing = Vec::new();
-        for (name, met, numbers) in
-            [("create", &self.creations, [0, 1, 2, 3, 4, 5, 6].as_slice()), ("run", &self.runs, &[0, 6, 7, 8, 9, 10])]
+        for (name, met, refusals) in
+            [("create", &self.creations, CREATE_REFUSALS.as_slice()), ("run", &self.runs, &RUN_REFUSALS)]
         {
-            for number in numbers.iter().filter(|number| !met.contains_key(*number)) {
-                missing.push(match number {
-                    0 => format!("no {name} was accepted"),
-                    number => format!("no {name} was refused with {number}"),
-                });
+            if !met.contains_key(&ACCEPTED) {
+                missing.push(format!("no {name} was accepted"));
             }
+            let unmet = refusals.iter().filter(|number| !met.contains_key(*number));
+            missing.extend(unmet.map(|number| format!("no {name} was refused with {number}")));
         }
         for kind in KINDS {
             let met = self.damaged.get(&kind).copied().unwrap_or_default();

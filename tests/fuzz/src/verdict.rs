@@ -1,8 +1,15 @@
 //! What each call must answer, worked out from the bytes of its buffers alone.
+//!
+//! This file, `state` and `layout` are the fuzzer's judge. They have their own reader of stores and records, their own
+//! rules and their own constants, and share none with the wrapper, with the reader that the differential runs use or with
+//! the archive: a mistake in what is shared would be on both sides of each comparison, and no run would show it.
 
 use crate::layout;
 use crate::state::State;
-use mapcache::Settings;
+
+/// The numbers that each call can refuse with; the runs must come to every one.
+pub const CREATE_REFUSALS: [u8; 6] = [1, 2, 3, 4, 5, 6];
+pub const RUN_REFUSALS: [u8; 5] = [6, 7, 8, 9, 10];
 
 pub const STORE_BYTES: usize = 57_600;
 pub const MOST_REQUEST_BYTES: usize = 32_768;
@@ -59,8 +66,7 @@ pub fn of_run(store: &[u8], requests: &[u8], replies_len: usize) -> Verdict {
     }
 }
 
-pub fn of_create(settings: Settings, store_len: usize) -> Verdict {
-    let Settings { capacity, small_ratio, ghost_ratio } = settings;
+pub fn of_create(capacity: u64, small_ratio: f64, ghost_ratio: f64, store_len: usize) -> Verdict {
     let unfit = |ratio: f64| !ratio.is_finite() || ratio.is_sign_negative();
     let limit = |ratio: f64| (capacity as f64 * ratio).round();
     if capacity == 0 {

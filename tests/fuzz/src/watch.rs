@@ -3,7 +3,7 @@
 use std::ffi::{c_int, c_uint, c_void};
 use std::sync::atomic::{AtomicU64, Ordering};
 
-extern "C" {
+unsafe extern "C" {
     fn signal(number: c_int, handler: extern "C" fn(c_int)) -> *mut c_void;
     fn write(fd: c_int, bytes: *const c_void, len: usize) -> isize;
     fn alarm(seconds: c_uint) -> c_uint;

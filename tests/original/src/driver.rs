@@ -3,9 +3,9 @@
 
 use crate::error::ConfigError;
 use crate::policy::s3_fifo::{S3FifoCache, observe};
-use crate::records::{Reply, Request, Settings};
 use crate::state::{Entry, State};
 use crate::traits::EvictingCache;
+use mapcache::{GuestBlock, Pair, PhysicalBlock, Reply, Request, Settings};
 
 pub struct Original {
     cache: S3FifoCache<u64, u64>,
@@ -39,18 +39,19 @@ impl Original {
     /// Runs one request and appends its replies.
     pub fn answer(&mut self, request: Request, replies: &mut Vec<u8>) {
         match request {
-            Request::Get { key } => hit(self.cache.get(&key)).write(replies),
-            Request::Peek { key } => hit(self.cache.peek(&key)).write(replies),
-            Request::Remove { key } => match self.cache.remove(&key) {
-                Some(value) => Reply::Gone { value }.write(replies),
+            Request::Get(guest) => hit(self.cache.get(&guest.0)).write(replies),
+            Request::Peek(guest) => hit(self.cache.peek(&guest.0)).write(replies),
+            Request::Remove(guest) => match self.cache.remove(&guest.0) {
+                Some(value) => Reply::Gone(PhysicalBlock(value)).write(replies),
                 None => Reply::Nothing.write(replies),
             },
-            Request::Insert { key, value } => self.insert(key, value, replies),
+            Request::Insert(guest, physical) => self.insert(guest.0, physical.0, replies),
             Request::Evict => self.evict_one(replies),
             Request::Clear => {
                 self.cache.clear();
                 Reply::Done.write(replies);
             },
+            request => panic!("{request} is no request of the original's"),
         }
     }
 
@@ -58,7 +59,7 @@ impl Original {
         let (old, moved) = self.watched(|cache| cache.insert(key, value));
         self.report_left(None, &moved, replies);
         match old {
-            Some(value) => Reply::Replaced { value }.write(replies),
+            Some(value) => Reply::Replaced(PhysicalBlock(value)).write(replies),
             None => Reply::New { pops: moved.pops }.write(replies),
         }
     }
@@ -68,7 +69,7 @@ impl Original {
         let (handed, moved) = self.watched(|cache| cache.evict_one());
         self.report_left(handed, &moved, replies);
         match handed {
-            Some((key, value)) => Reply::Handed { key, value }.write(replies),
+            Some((key, value)) => Reply::HandedBack(pair(key, value)).write(replies),
             None => Reply::Nothing.write(replies),
         }
     }
@@ -96,8 +97,8 @@ impl Original {
         assert!(left.next().is_none(), "the original pushed two pairs out in one request");
         match (first, moved.left_small, moved.left_main) {
             (None, 0, 0) => {},
-            (Some(e), 1, 0) => Reply::LeftSmall { key: e.key, value: e.value }.write(replies),
-            (Some(e), 0, 1) => Reply::LeftMain { key: e.key, value: e.value }.write(replies),
+            (Some(e), 1, 0) => Reply::LeftSmall(pair(e.key, e.value)).write(replies),
+            (Some(e), 0, 1) => Reply::LeftMain(pair(e.key, e.value)).write(replies),
             (left, small, main) => panic!("the original lost {left:?} and counts {small} from Small, {main} from Main"),
         }
     }
@@ -105,7 +106,11 @@ impl Original {
 
 fn hit(value: Option<&u64>) -> Reply {
     match value {
-        Some(value) => Reply::Hit { value: *value },
+        Some(value) => Reply::Hit(PhysicalBlock(*value)),
         None => Reply::Nothing,
     }
+}
+
+fn pair(key: u64, value: u64) -> Pair {
+    Pair { guest: GuestBlock(key), physical: PhysicalBlock(value) }
 }

@@ -1,4 +1,5 @@
 //! Reads the original's private state. Compiled as a child module of s3_fifo.rs, which is what lets it see the fields.
+#![warn(clippy::all)]
 
 use super::{QueueKind, S3FifoCache};
 use crate::ds::SlotId;

@@ -1,13 +1,12 @@
 //! Records answers of the original: cases of settings and one call's requests, with the replies that the original gives.
 //! A program of the gate replays them on the proved calls, so that the comparison needs no Rust.
 
+use common::{Random, program};
 use differential::cases::{self, Case};
-use differential::random::Random;
 use differential::settings;
 use differential::traffic::Traffic;
+use mapcache::{MOST_REQUEST_BYTES, Request, Settings};
 use original::driver::Original;
-use original::records::{MOST_REQUEST_BYTES, Request, Settings};
-use std::env;
 use std::fs;
 use std::path::Path;
 use std::process::ExitCode;
@@ -26,20 +25,11 @@ struct File {
 }
 
 fn main() -> ExitCode {
-    let arguments: Vec<String> = env::args().skip(1).collect();
-    let words: Vec<&str> = arguments.iter().map(String::as_str).collect();
-    let done = match words.as_slice() {
+    program::with_words("record", |words| match words {
         ["write", folder] => files().iter().try_for_each(|file| write(Path::new(folder), file)),
         ["check", folder] => files().iter().try_for_each(|file| check(Path::new(folder), file)),
         _ => Err(USAGE.to_string()),
-    };
-    match done {
-        Ok(()) => ExitCode::SUCCESS,
-        Err(error) => {
-            eprintln!("record: {error}");
-            ExitCode::FAILURE
-        },
-    }
+    })
 }
 
 fn write(folder: &Path, file: &File) -> Result<(), String> {
@@ -105,7 +95,7 @@ fn many(random: &mut Random) -> Vec<Case> {
 fn most(random: &mut Random) -> Vec<Case> {
     [1, 100, 333, 1024]
         .into_iter()
-        .map(|capacity| random_case(settings::default_of(capacity), u64::MAX, random))
+        .map(|capacity| random_case(Settings::with_capacity(capacity), u64::MAX, random))
         .collect()
 }
 
@@ -138,7 +128,7 @@ impl Call {
     /// Adds a request if there is room for it.
     fn add(&mut self, request: Request) -> bool {
         let bytes = self.bytes + request.bytes();
-        let room = self.room + request.room();
+        let room = self.room + request.reply_room();
         let fits = bytes <= MOST_REQUEST_BYTES && room <= REPLY_BUFFER;
         if fits {
             self.requests.push(request);
@@ -149,7 +139,7 @@ impl Call {
 
     fn answered_by(&self, settings: Settings, original: &mut Original) -> Case {
         let mut case = Case { input: Vec::new(), output: Vec::new() };
-        settings.write(&mut case.input);
+        settings::write(settings, &mut case.input);
         for request in &self.requests {
             request.write(&mut case.input);
             original.answer(*request, &mut case.output);

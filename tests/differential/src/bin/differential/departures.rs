@@ -1,21 +1,20 @@
 //! Every departure from the original, shown on a small input: what ours does, what the original does. The table of
 //! docs/DIFFERENCES.md is what this prints; each row is tried before it is printed.
 
+use mapcache::{DEFAULT_GHOST_RATIO, DEFAULT_SMALL_RATIO, GuestBlock, PhysicalBlock, Reply, Request, Settings};
 use original::driver::Original;
 use original::policy::s3_fifo::S3FifoCache;
-use original::records::{Reply, Request, Settings};
 use original::state::State;
 use original::traits::EvictingCache;
 use std::panic::{self, UnwindSafe};
-
-const DEFAULTS: (f64, f64) = (0.1, 0.9);
 
 pub fn print() {
     println!("| refusal | input | the original |\n|---|---|---|");
     creation_rows();
     call_rows();
     println!("\n| without a refusal | ours | the original |\n|---|---|---|");
-    silent_rows();
+    silent_rows_of_one();
+    silent_rows_of_two();
 }
 
 /// What the original does with settings that ours refuses.
@@ -28,7 +27,7 @@ enum Outcome {
 
 fn creation_rows() {
     use Outcome::*;
-    let (small, large) = DEFAULTS;
+    let (small, large) = (DEFAULT_SMALL_RATIO, DEFAULT_GHOST_RATIO);
     refused(1, "capacity 0", settings(0, small, large), Errs);
     refused(2, "capacity 1,025", settings(1025, small, large), Accepts);
     refused(2, "capacity 2^64 - 1, ghost ratio 0.0", settings(u64::MAX, small, 0.0), Panics);
@@ -45,9 +44,9 @@ fn creation_rows() {
 }
 
 /// Tries settings on both, and prints the original's part.
-fn refused(number: u64, input: &str, settings: Settings, expected: Outcome) {
-    let refusal = library::create(settings, &mut fresh_store()).expect_err("ours refuses");
-    assert_eq!(refusal.number, number, "{input}");
+fn refused(number: u8, input: &str, settings: Settings, expected: Outcome) {
+    let refusal = mapcache::create(settings, &mut fresh_store()).expect_err("ours refuses");
+    assert_eq!(refusal.number(), number, "{input}");
     let (outcome, words) = match quietly(|| Original::create(settings)) {
         Ok(Ok(original)) => {
             let State { capacity, small_limit, ghost_limit, .. } = original.state();
@@ -82,19 +81,19 @@ fn quietly<T>(work: impl FnOnce() -> T + UnwindSafe) -> Result<T, String> {
 }
 
 fn call_rows() {
-    let insert = bytes(&[Request::Insert { key: 7, value: 70 }]);
+    let insert = bytes(&[put(7, 70)]);
     let cut = [&insert[..], b"G"].concat();
     let clears = vec![Request::Clear; 16_385];
-    let shorter = library::store_bytes() - 1;
+    let shorter = mapcache::store_bytes() - 1;
     let mut damaged = created();
     damaged[0] = 0;
-    let mut original = Original::create(settings(1, DEFAULTS.0, DEFAULTS.1)).expect("valid settings");
+    let mut original = Original::create(Settings::with_capacity(1)).expect("valid settings");
     clears.iter().for_each(|clear| original.answer(*clear, &mut Vec::new()));
 
     let no_bytes = "has no bytes: its requests are methods";
     let row = |number, store: &mut [u8], requests: &[u8], room, detail, input, original| {
-        let refusal = library::run(store, requests, &mut vec![0; room]).expect_err("ours refuses");
-        assert_eq!((refusal.number, refusal.detail), (number, detail), "{input}");
+        let refusal = mapcache::run(store, requests, &mut vec![0; room]).expect_err("ours refuses");
+        assert_eq!((refusal.number(), refusal.detail()), (number, detail), "{input}");
         println!("| {number} | {input} (detail {detail}) | {original} |");
     };
     row(6, &mut created()[..shorter], &insert, 28, 0, "a store one byte short", "has no store: it allocates");
@@ -108,10 +107,8 @@ fn call_rows() {
     row(10, &mut created(), &insert, 27, 28, "IN 7 70 with a reply buffer of 27 bytes", returned);
 }
 
-/// Where both accept, and the original says less.
-fn silent_rows() {
-    let put = |key, value| Request::Insert { key, value };
-    let get = |key| Request::Get { key };
+/// Where both accept, and the original says less, at capacity 1.
+fn silent_rows_of_one() {
     let mut cache = S3FifoCache::<u64, u64>::new(1);
     assert_eq!(cache.insert(7, 70), None);
     assert_eq!((cache.insert(8, 80), cache.peek(&7)), (None, None));
@@ -131,7 +128,11 @@ fn silent_rows() {
         "ES 7 70, MI",
         "`evict_one` returns None, as on an empty cache; (7, 70) is dropped",
     );
+}
 
+/// The same at capacity 2.
+fn silent_rows_of_two() {
+    let get = |key| Request::Get(GuestBlock(key));
     let mut cache = S3FifoCache::<u64, u64>::new(2);
     cache.insert(1, 10);
     cache.insert(2, 20);
@@ -145,7 +146,6 @@ fn silent_rows() {
 
     let mut cache = S3FifoCache::<u64, u64>::new(2);
     cache.insert(1, 10);
-    cache.get(&1);
     cache.get(&1);
     cache.insert(2, 20);
     cache.get(&2);
@@ -162,16 +162,20 @@ fn silent_rows() {
 /// Runs requests on ours at the default ratios and holds the replies to the last one to what the table says.
 fn silent(capacity: u64, requests: &[Request], last: &str, original: &str) {
     let mut store = fresh_store();
-    library::create(settings(capacity, DEFAULTS.0, DEFAULTS.1), &mut store).expect("valid settings");
+    mapcache::create(Settings::with_capacity(capacity), &mut store).expect("valid settings");
     let mut replies = vec![0; 1024];
     let (end, before) = requests.split_last().expect("there is a request");
-    library::run(&mut store, &bytes(before), &mut replies).expect("valid requests");
-    let written = library::run(&mut store, &bytes(&[*end]), &mut replies).expect("a valid request");
+    mapcache::run(&mut store, &bytes(before), &mut replies).expect("valid requests");
+    let written = mapcache::run(&mut store, &bytes(&[*end]), &mut replies).expect("a valid request");
     let said = Reply::read_all(&replies[..written]).expect("replies are records");
     let said = said.iter().map(Reply::to_string).collect::<Vec<_>>().join(", ");
     let asked = requests.iter().map(Request::to_string).collect::<Vec<_>>().join(", ");
     assert_eq!(said, last, "capacity {capacity}: {asked}");
     println!("| capacity {capacity}, defaults: {asked} | {said} | {original} |");
+}
+
+fn put(key: u64, value: u64) -> Request {
+    Request::Insert(GuestBlock(key), PhysicalBlock(value))
 }
 
 fn bytes(requests: &[Request]) -> Vec<u8> {
@@ -185,11 +189,11 @@ fn settings(capacity: u64, small_ratio: f64, ghost_ratio: f64) -> Settings {
 }
 
 fn fresh_store() -> Vec<u8> {
-    vec![0; library::store_bytes()]
+    vec![0; mapcache::store_bytes()]
 }
 
 fn created() -> Vec<u8> {
     let mut store = fresh_store();
-    library::create(settings(1, DEFAULTS.0, DEFAULTS.1), &mut store).expect("valid settings");
+    mapcache::create(Settings::with_capacity(1), &mut store).expect("valid settings");
     store
 }

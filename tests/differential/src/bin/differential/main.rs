@@ -9,7 +9,7 @@ mod sizing;
 mod store;
 mod tally;
 
-use std::env;
+use common::program;
 use std::process::ExitCode;
 
 const USAGE: &str = "usage:
@@ -18,9 +18,7 @@ const USAGE: &str = "usage:
   differential replay FILE...      replay recorded answers of the original";
 
 fn main() -> ExitCode {
-    let arguments: Vec<String> = env::args().skip(1).collect();
-    let words: Vec<&str> = arguments.iter().map(String::as_str).collect();
-    let done = match words.as_slice() {
+    program::with_words("differential", |words| match words {
         ["run", seed, requests] => compare(seed, requests),
         ["departures"] => {
             departures::print();
@@ -28,14 +26,7 @@ fn main() -> ExitCode {
         },
         ["replay", files @ ..] if !files.is_empty() => replay(files),
         _ => Err(USAGE.to_string()),
-    };
-    match done {
-        Ok(()) => ExitCode::SUCCESS,
-        Err(error) => {
-            eprintln!("differential: {error}");
-            ExitCode::FAILURE
-        },
-    }
+    })
 }
 
 fn compare(seed: &str, requests: &str) -> Result<(), String> {

@@ -1,10 +1,9 @@
 //! The library and the original side by side, on the same requests.
 
 use crate::store;
-use differential::random::Random;
-use library::Refusal;
+use common::Random;
+use mapcache::{Refusal, Reply, Request, Settings};
 use original::driver::Original;
-use original::records::{Reply, Request, Settings};
 use original::state::State;
 
 /// What the bytes behind the replies hold before a call, and must hold after it.
@@ -34,10 +33,10 @@ impl Pair {
             Original::create(settings).map_err(|error| format!("the original refuses {settings}: {error}"))?;
         let expected = original.state();
         let longer = if random.one_in(4) { random.between(1, 100) as usize } else { 0 };
-        let mut store = vec![0; library::store_bytes() + longer];
+        let mut store = vec![0; mapcache::store_bytes() + longer];
         random.fill(&mut store);
         let surplus = store[store::used_bytes(expected.capacity, expected.ghost_limit)..].to_vec();
-        library::create(settings, &mut store).map_err(|refusal| format!("{refusal:?} of {settings}"))?;
+        mapcache::create(settings, &mut store).map_err(|refusal| format!("{refusal:?} of {settings}"))?;
         let pair = Pair { random, store, surplus, original, replies: Vec::new(), expected: Vec::new() };
         pair.compare_states()?;
         Ok(pair)
@@ -68,14 +67,14 @@ impl Pair {
         let mut room = 0;
         for request in requests {
             request.write(&mut bytes);
-            room += request.room();
+            room += request.reply_room();
         }
         if self.random.one_in(2) {
             room += self.random.below(80) as usize;
         }
         self.replies.clear();
         self.replies.resize(room, UNTOUCHED);
-        library::run(&mut self.store, &bytes, &mut self.replies)
+        mapcache::run(&mut self.store, &bytes, &mut self.replies)
     }
 
     fn compare_states(&self) -> Result<State, String> {

@@ -1,11 +1,9 @@
 //! Replays recorded cases on the library.
 
 use differential::cases::{self, Case};
-use original::records::Settings;
+use differential::settings;
 use std::fs;
 
-/// The length of the record CF.
-const SETTINGS: usize = 26;
 const REPLY_BUFFER: usize = 65_536;
 
 /// Replays the cases of a file; answers how many there are.
@@ -22,13 +20,12 @@ pub fn replay(path: &str) -> Result<usize, String> {
 }
 
 fn replay_case(case: &Case) -> Result<(), String> {
-    let (settings, requests) = case.input.split_at_checked(SETTINGS).ok_or("the record CF is cut short")?;
-    let mut store = vec![0; library::store_bytes()];
+    let (settings, requests) = settings::read(&case.input).ok_or("the input does not open with a whole record CF")?;
+    let mut store = vec![0; mapcache::store_bytes()];
     let mut replies = vec![0; REPLY_BUFFER];
-    let settings = Settings::read(settings).ok_or("the input does not open with CF")?;
-    library::create(settings, &mut store).map_err(|refusal| format!("{settings}: {refusal:?}"))?;
+    mapcache::create(settings, &mut store).map_err(|refusal| format!("{settings}: {refusal:?}"))?;
     let written =
-        library::run(&mut store, requests, &mut replies).map_err(|refusal| format!("{settings}: {refusal:?}"))?;
+        mapcache::run(&mut store, requests, &mut replies).map_err(|refusal| format!("{settings}: {refusal:?}"))?;
     match replies[..written] == case.output {
         true => Ok(()),
         false => Err(format!("{settings}: the replies differ")),

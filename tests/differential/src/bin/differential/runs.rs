@@ -3,10 +3,10 @@
 use crate::pair::Pair;
 use crate::shrink::shrink;
 use crate::tally::Tally;
-use differential::random::Random;
+use common::Random;
 use differential::settings::{self, MOST_CAPACITY, MOST_GHOSTS};
 use differential::traffic::Traffic;
-use original::records::{Request, Settings};
+use mapcache::{Request, Settings};
 
 /// Fewer requests could not reach what must come up.
 pub const LEAST_REQUESTS: u64 = 1_000_000;
@@ -68,7 +68,7 @@ fn long_run_settings() -> Vec<Settings> {
         .into_iter()
         .flat_map(|capacity| {
             [
-                settings::default_of(capacity),
+                Settings::with_capacity(capacity),
                 Settings { capacity, small_ratio: 1.0, ghost_ratio: 0.0 },
                 Settings { capacity, small_ratio: 0.5, ghost_ratio: 1.0 },
             ]

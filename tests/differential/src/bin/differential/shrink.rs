@@ -1,8 +1,8 @@
 //! Makes a trace on which the two sides differ as short as leaving requests out can make it.
 
 use crate::pair::Pair;
-use differential::random::Random;
-use original::records::{Request, Settings};
+use common::Random;
+use mapcache::{Request, Settings};
 
 /// A long trace that stays long is shown as it is then.
 const MOST_TRIES: usize = 2000;

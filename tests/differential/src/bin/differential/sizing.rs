@@ -1,11 +1,11 @@
 //! Creation compared: which settings are taken, and the limits that follow from them.
 
 use crate::store;
-use differential::random::Random;
-use differential::settings::{DEFAULT_GHOST_RATIO, DEFAULT_SMALL_RATIO, MOST_CAPACITY, MOST_GHOSTS};
+use common::Random;
+use differential::settings::{MOST_CAPACITY, MOST_GHOSTS};
+use mapcache::{DEFAULT_GHOST_RATIO, DEFAULT_SMALL_RATIO, Settings};
 use original::driver::Original;
 use original::error::ConfigError;
-use original::records::Settings;
 
 /// The original reserves its ghost list at once; larger ones are not tried.
 const LARGEST_TRIED_GHOSTS: f64 = 100_000.0;
@@ -23,7 +23,7 @@ const OUTCOMES: [&str; 6] = [SAME_LIMITS, BOTH_REFUSE, BOTH_REFUSE_OTHERWISE, TO
 pub fn run(seed: u64) -> Result<(), String> {
     let mut random = Random::new(seed);
     let mut outcomes = Vec::new();
-    let mut store = vec![0; library::store_bytes()];
+    let mut store = vec![0; mapcache::store_bytes()];
     for capacity in 0..=MOST_CAPACITY + 2 {
         for small_ratio in ratios(capacity, capacity, &mut random) {
             outcomes.push(compare(Settings { capacity, small_ratio, ghost_ratio: DEFAULT_GHOST_RATIO }, &mut store)?);
@@ -58,7 +58,7 @@ fn ratios(capacity: u64, most_limit: u64, random: &mut Random) -> Vec<f64> {
 }
 
 fn compare(settings: Settings, store: &mut [u8]) -> Result<&'static str, String> {
-    let ours = library::create(settings, store).map_err(|refusal| refusal.number);
+    let ours = mapcache::create(settings, store).map_err(|refusal| refusal.number());
     let product = settings.capacity as f64 * settings.ghost_ratio;
     if settings.ghost_ratio.is_finite() && product > LARGEST_TRIED_GHOSTS {
         return match ours {
@@ -83,7 +83,7 @@ fn compare(settings: Settings, store: &mut [u8]) -> Result<&'static str, String>
 }
 
 /// Our number for what the original errs about.
-fn refusal_for(error: &ConfigError) -> u64 {
+fn refusal_for(error: &ConfigError) -> u8 {
     match error.message() {
         message if message.starts_with("cache capacity") => 1,
         message if message.starts_with("small_ratio") => 3,

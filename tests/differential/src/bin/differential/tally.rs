@@ -1,7 +1,7 @@
 //! Counts what the runs came across. A kind of event that never came up would mean that nothing was compared there.
 
 use crate::pair::Agreed;
-use original::records::{MOST_REQUEST_BYTES, Reply, Request};
+use mapcache::{GuestBlock, MOST_REQUEST_BYTES, PhysicalBlock, Reply, Request};
 use original::state::State;
 use std::collections::{BTreeMap, BTreeSet};
 
@@ -97,43 +97,43 @@ impl Tally {
 
     fn request(&mut self, request: Request) {
         self.count("requests");
-        let key = match request {
-            Request::Get { key } | Request::Peek { key } | Request::Remove { key } | Request::Insert { key, .. } => key,
-            Request::Evict | Request::Clear => return,
+        let guest = match request {
+            Request::Get(guest) | Request::Peek(guest) | Request::Remove(guest) | Request::Insert(guest, _) => guest,
+            _ => return,
         };
-        match key {
-            0 => self.count("request keys 0"),
-            u64::MAX => self.count("request keys 2^64 - 1"),
+        match guest {
+            GuestBlock(0) => self.count("request keys 0"),
+            GuestBlock(u64::MAX) => self.count("request keys 2^64 - 1"),
             _ => {},
         }
         match request {
-            Request::Insert { value: 0, .. } => self.count("request values 0"),
-            Request::Insert { value: u64::MAX, .. } => self.count("request values 2^64 - 1"),
+            Request::Insert(_, PhysicalBlock(0)) => self.count("request values 0"),
+            Request::Insert(_, PhysicalBlock(u64::MAX)) => self.count("request values 2^64 - 1"),
             _ => {},
         }
     }
 
     fn replies(&mut self, request: Request, replies: &[Reply]) {
-        use Reply::*;
+        use Reply::{Done, Gone, HandedBack, Hit, LeftMain, LeftSmall, New, Nothing, Replaced};
         let (kind, event) = match (request, replies) {
-            (Request::Get { .. }, [Hit { .. }]) => ("requests GT", "GT: HI"),
-            (Request::Get { .. }, [Nothing]) => ("requests GT", "GT: MI"),
-            (Request::Peek { .. }, [Hit { .. }]) => ("requests PK", "PK: HI"),
-            (Request::Peek { .. }, [Nothing]) => ("requests PK", "PK: MI"),
-            (Request::Remove { .. }, [Gone { .. }]) => ("requests RM", "RM: GO"),
-            (Request::Remove { .. }, [Nothing]) => ("requests RM", "RM: MI"),
-            (Request::Insert { .. }, [Replaced { .. }]) => ("requests IN", "IN: RE"),
-            (Request::Insert { .. }, [New { pops: 0 }]) => ("requests IN", "IN: NW 0"),
-            (Request::Insert { .. }, [LeftSmall { .. }, New { pops: 1 }]) => ("requests IN", "IN: ES, NW 1"),
-            (Request::Insert { .. }, [LeftSmall { .. }, New { .. }]) => ("requests IN", "IN: ES, NW 2 or more"),
-            (Request::Insert { .. }, [LeftMain { .. }, New { pops: 1 }]) => ("requests IN", "IN: EM, NW 1"),
-            (Request::Insert { .. }, [LeftMain { .. }, New { .. }]) => ("requests IN", "IN: EM, NW 2 or more"),
-            (Request::Evict, [Handed { .. }]) => ("requests EV", "EV: EX"),
+            (Request::Get(_), [Hit(_)]) => ("requests GT", "GT: HI"),
+            (Request::Get(_), [Nothing]) => ("requests GT", "GT: MI"),
+            (Request::Peek(_), [Hit(_)]) => ("requests PK", "PK: HI"),
+            (Request::Peek(_), [Nothing]) => ("requests PK", "PK: MI"),
+            (Request::Remove(_), [Gone(_)]) => ("requests RM", "RM: GO"),
+            (Request::Remove(_), [Nothing]) => ("requests RM", "RM: MI"),
+            (Request::Insert(..), [Replaced(_)]) => ("requests IN", "IN: RE"),
+            (Request::Insert(..), [New { pops: 0 }]) => ("requests IN", "IN: NW 0"),
+            (Request::Insert(..), [LeftSmall(_), New { pops: 1 }]) => ("requests IN", "IN: ES, NW 1"),
+            (Request::Insert(..), [LeftSmall(_), New { .. }]) => ("requests IN", "IN: ES, NW 2 or more"),
+            (Request::Insert(..), [LeftMain(_), New { pops: 1 }]) => ("requests IN", "IN: EM, NW 1"),
+            (Request::Insert(..), [LeftMain(_), New { .. }]) => ("requests IN", "IN: EM, NW 2 or more"),
+            (Request::Evict, [HandedBack(_)]) => ("requests EV", "EV: EX"),
             (Request::Evict, [Nothing]) => ("requests EV", "EV: MI"),
-            (Request::Evict, [LeftSmall { .. }, Handed { .. }]) => ("requests EV", "EV: ES, EX"),
-            (Request::Evict, [LeftSmall { .. }, Nothing]) => ("requests EV", "EV: ES, MI"),
-            (Request::Evict, [LeftMain { .. }, Handed { .. }]) => ("requests EV", "EV: EM, EX"),
-            (Request::Evict, [LeftMain { .. }, Nothing]) => ("requests EV", "EV: EM, MI"),
+            (Request::Evict, [LeftSmall(_), HandedBack(_)]) => ("requests EV", "EV: ES, EX"),
+            (Request::Evict, [LeftSmall(_), Nothing]) => ("requests EV", "EV: ES, MI"),
+            (Request::Evict, [LeftMain(_), HandedBack(_)]) => ("requests EV", "EV: EM, EX"),
+            (Request::Evict, [LeftMain(_), Nothing]) => ("requests EV", "EV: EM, MI"),
             (Request::Clear, [Done]) => ("requests CL", "CL: OK"),
             _ => panic!("{request} has the replies {replies:?}, which belong to no request of its kind"),
         };
@@ -195,5 +195,5 @@ impl Tally {
 }
 
 fn is_report(reply: &Reply) -> bool {
-    matches!(reply, Reply::LeftSmall { .. } | Reply::LeftMain { .. })
+    matches!(reply, Reply::LeftSmall(_) | Reply::LeftMain(_))
 }

@@ -1,5 +1,6 @@
-//! Random numbers that are the same everywhere for the same seed (SplitMix64).
+//! Numbers that look random and follow from a seed, the same everywhere (SplitMix64).
 
+/// A source of them: equal seeds give equal numbers.
 #[derive(Clone)]
 pub struct Random {
     state: u64,
@@ -25,6 +26,7 @@ impl Random {
         ((u128::from(self.number()) * u128::from(bound)) >> 64) as u64
     }
 
+    /// From the least to the most, both included.
     pub fn between(&mut self, least: u64, most: u64) -> u64 {
         least + self.below(most - least + 1)
     }
@@ -38,8 +40,17 @@ impl Random {
         (self.number() >> 11) as f64 / (1u64 << 53) as f64
     }
 
-    pub fn pick<T: Copy>(&mut self, from: &[T]) -> T {
-        from[self.below(from.len() as u64) as usize]
+    pub fn byte(&mut self) -> u8 {
+        self.below(256) as u8
+    }
+
+    /// An index of so many things, of which there is at least one.
+    pub fn index(&mut self, len: usize) -> usize {
+        self.below(len as u64) as usize
+    }
+
+    pub fn pick<T: Copy>(&mut self, among: &[T]) -> T {
+        among[self.index(among.len())]
     }
 
     pub fn fill(&mut self, bytes: &mut [u8]) {
@@ -54,4 +65,33 @@ pub fn mix(number: u64) -> u64 {
     let a = (number ^ (number >> 30)).wrapping_mul(0xbf58_476d_1ce4_e5b9);
     let b = (a ^ (a >> 27)).wrapping_mul(0x94d0_49bb_1331_11eb);
     b ^ (b >> 31)
+}
+
+#[cfg(test)]
+mod tests {
+    use super::Random;
+
+    #[test]
+    fn equal_seeds_give_equal_numbers() {
+        let numbers = |seed| {
+            let mut random = Random::new(seed);
+            [random.number(), random.below(10), random.between(5, 6)]
+        };
+        assert_eq!(numbers(1), numbers(1));
+        assert_ne!(numbers(1), numbers(2));
+    }
+
+    #[test]
+    fn the_numbers_are_those_that_splitmix64_is_published_with() {
+        let mut random = Random::new(1_234_567);
+        let published = [6_457_827_717_110_365_317, 3_203_168_211_198_807_973, 9_817_491_932_198_370_423];
+        assert_eq!([(); 3].map(|()| random.number()), published);
+    }
+
+    #[test]
+    fn bounds_are_kept_and_reached() {
+        let mut random = Random::new(1);
+        let seen: Vec<u64> = (0..1000).map(|_| random.between(3, 6)).collect();
+        assert_eq!((seen.iter().min(), seen.iter().max()), (Some(&3), Some(&6)));
+    }
 }

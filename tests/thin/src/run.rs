@@ -1,14 +1,11 @@
 //! Runs of a host: events one after the other, watched by someone who knows which block belongs to whom.
 
-use crate::block_cache::BlockCache;
-use crate::disk::{name, Disks};
-use crate::host::{Emptying, Host};
-use crate::Result;
+use common::Random;
 use mapcache::{GuestBlock, PhysicalBlock, Settings};
-use random::Random;
 use std::collections::HashMap;
 use std::fmt;
 use std::path::Path;
+use thin::{BlockCache, Disks, Emptying, Host, Result, name};
 
 #[derive(Clone, Copy, Debug, PartialEq, Eq)]
 pub enum Event {
@@ -45,28 +42,33 @@ pub struct Setup {
     pub physical_blocks: u64,
 }
 
+/// From the least to the most, by the remainder, as the runs were drawn whose figures docs/RELIABILITY.md has.
+fn draw(random: &mut Random, least: u64, most: u64) -> u64 {
+    least + random.number() % (most - least + 1)
+}
+
 impl Setup {
     pub fn random(random: &mut Random) -> Setup {
-        let disks = Disks { guests: random.from(2, 4), blocks: random.from(1, 24) };
-        let capacity = random.from(1, 12);
+        let disks = Disks { guests: draw(random, 2, 4), blocks: draw(random, 1, 24) };
         let settings = Settings {
-            capacity,
-            small_ratio: random.from(0, 10) as f64 / 10.0,
-            ghost_ratio: random.from(0, 20) as f64 / 10.0,
+            capacity: draw(random, 1, 12),
+            small_ratio: draw(random, 0, 10) as f64 / 10.0,
+            ghost_ratio: draw(random, 0, 20) as f64 / 10.0,
         };
-        Setup { settings, disks, physical_blocks: disks.size() + random.from(0, disks.size()) }
+        Setup { settings, disks, physical_blocks: disks.size() + draw(random, 0, disks.size()) }
     }
 
     pub fn random_event(&self, random: &mut Random) -> Event {
-        let block = Disks::block(random.below(self.disks.guests), random.below(self.disks.blocks));
-        match random.below(64) {
+        let guest = draw(random, 0, self.disks.guests - 1);
+        let block = Disks::block(guest, draw(random, 0, self.disks.blocks - 1));
+        match draw(random, 0, 63) {
             0..=23 => Event::Write(block),
             24..=43 => Event::Read(block),
             44..=49 => Event::Move(block),
             50..=55 => Event::Trim(block),
             56..=59 => Event::Evict,
             60..=62 => Event::Sweep,
-            _ if random.below(2) == 0 => Event::Restart(Emptying::ByRemoving),
+            _ if draw(random, 0, 1) == 0 => Event::Restart(Emptying::ByRemoving),
             _ => Event::Restart(Emptying::ByEvicting),
         }
     }

@@ -1,12 +1,9 @@
 //! The shortest run in which a block comes to belong to two guests, by trying all runs in the order of their length.
 
-use crate::block_cache::BlockCache;
-use crate::disk::Disks;
-use crate::host::Emptying;
-use crate::run::{run, Event, Outcome, Setup};
-use crate::Result;
+use crate::run::{Event, Outcome, Setup, run};
 use mapcache::Settings;
 use std::path::Path;
+use thin::{BlockCache, Disks, Emptying, Result};
 
 /// Two guests with two blocks each before a cache of one pair.
 pub fn smallest_setup() -> Setup {

@@ -180,12 +180,37 @@ fn answer(input: &[u8], n: usize) {
     }
 }
 
-fn main() {
+// All of standard input, answered on standard output.
+fn replay() {
     let mut input = input_buffer();
     match read_all(STDIN_FILENO, &mut input) {
         Input::Bytes(n) => answer(&input, n),
         Input::Failed => {
             io::write_all(STDERR_FILENO, b"replay: cannot read standard input\n");
         }
+    }
+}
+
+// The one argument that the program knows asks for its version.
+fn tell(argument: &[u8]) {
+    if check::same(argument, b"--version") {
+        io::write_all(STDOUT_FILENO, b"mapcache-replay ");
+        io::write_all(STDOUT_FILENO, &S3FifoCache::VERSION);
+        io::write_all(STDOUT_FILENO, b"\n");
+    } else {
+        io::write_all(
+            STDERR_FILENO,
+            b"replay: it reads standard input and writes standard output; its only argument is --version\n",
+        );
+    }
+}
+
+fn main() {
+    if os::arg_count() <= 1 {
+        replay();
+    } else {
+        let mut argument = io::buffer();
+        let n = os::arg(1, &mut argument);
+        tell(&argument[..n]);
     }
 }

@@ -1,0 +1,33 @@
+// The numbers that the cache's own type and the crates below it fix, a name and a value to a line, ratios by the bits of the double. Header, wrapper and
+// tools are compared with what this prints (`make constants`), so that each number stands once in the proved code.
+use libc::STDOUT_FILENO;
+use s3_fifo::S3FifoCache;
+
+// A line with a number.
+fn line(name: &[u8], value: u64) {
+    io::write_all(STDOUT_FILENO, name);
+    io::print_decimal(STDOUT_FILENO, value);
+    io::write_all(STDOUT_FILENO, b"\n");
+}
+
+// A line with a ratio, by its bits. A NaN has no bits that mean anything, and none stands here: it would be a line too few.
+fn ratio(name: &[u8], value: f64) {
+    if value != value {
+        return;
+    }
+    line(name, f64::to_bits(value));
+}
+
+fn main() {
+    io::write_all(STDOUT_FILENO, b"version ");
+    io::write_all(STDOUT_FILENO, &S3FifoCache::VERSION);
+    io::write_all(STDOUT_FILENO, b"\n");
+    line(b"max_freq ", S3FifoCache::MAX_FREQ as u64);
+    let defaults = S3FifoCache::settings(1);
+    ratio(b"default_small_ratio ", defaults.small_ratio);
+    ratio(b"default_ghost_ratio ", defaults.ghost_ratio);
+    line(b"store_bytes ", S3FifoCache::STORE_BYTES as u64);
+    line(b"most ", rules::MOST);
+    line(b"most_request_bytes ", rules::MOST_REQUEST_BYTES as u64);
+    line(b"settings_bytes ", sizing::SETTINGS_BYTES as u64);
+}

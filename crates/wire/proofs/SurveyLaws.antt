@@ -71,7 +71,7 @@ pub record Passed (s : List ℕ) (i : ℕ) (e : Entry) : Type 0 where
   pub ratio : e .room ≤ 18 * e .bytes
   pub more : (n : ℕ) → plus n (surveyed (length s) (parseFrom s i)) ≡ plus (n + e .room) (surveyed (length s) (parseFrom s (i + e .bytes)))
 
-with-room : (n : ℕ) (q : Request) (p : Parsed) (m r : ℕ) → roomOf q ≡ r → plus m (surveyed n (with q p)) ≡ plus (m + r) (surveyed n p)
+with-room : (n : ℕ) (q : Request) (p : Parsed Request) (m r : ℕ) → roomOf q ≡ r → plus m (surveyed n (with q p)) ≡ plus (m + r) (surveyed n p)
 unfolding roomFor
 with-room n q p m r h = let e : m + (roomOf q + total roomOf (p .requests)) ≡ m + r + total roomOf (p .requests) = omega arith in λ j. record { room = e j; at = surveyed n p .at; stop = surveyed n p .stop }
 

@@ -58,7 +58,7 @@ placed unknown = Unknown
 placed cut = Cut
 placed over = Over
 
-abbrev pub meaning : Record → Reading
+abbrev pub meaning : Record → Reading Request
 meaning (Ask q after) = ask (asked q) after
 meaning Unknown· = strange
 meaning Cut· = short
@@ -75,7 +75,7 @@ stopOf whole = Whole
 stopOf (unknownAt i) = UnknownStop
 stopOf (cutAt i) = CutStop
 
-abbrev pub surveyed : ℕ → Parsed → Survey
+abbrev pub surveyed : ℕ → Parsed Request → Survey
 surveyed n p = record { room = roomFor (p .requests); at = endAt n (p .end); stop = stopOf (p .end) }
 
 -- s with bs in the place of as many bytes from an offset on

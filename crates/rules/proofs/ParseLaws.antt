@@ -60,28 +60,54 @@ pub read-end : (s : List ℕ) (i : ℕ) → length s ≤ i → readAt s i ≡ en
 unfolding readAt spotAt
 read-end s i h = rw (le-leb (length s) i h)
 
--- ---- one record more is one turn more
+-- ---- one record more is one turn more, for any reader of one record that goes forward
 
-module _ (s : List ℕ) where
-  enough-step : (n m i : ℕ) → ((after : ℕ) → i < after → walk (readAt s) n after ≡ walk (readAt s) m after)
-      → (r : Reading Request) → readAt s i ≡ r → onReading (walk (readAt s) n) i r ≡ onReading (walk (readAt s) m) i r
-  enough-step n m i ih (ask q after) e = ap (with q) (ih after (read-goes s i q after e .0))
+-- what it reads ends further on, within n bytes; and behind these there is nothing more
+pub record Forward {A : Type 0} (read : ℕ → Reading A) (n : ℕ) : Type 0 where
+  pub goes : (i : ℕ) (q : A) (after : ℕ) → read i ≡ ask q after → (i < after) × (after ≤ n)
+  pub stops : (i : ℕ) → n ≤ i → read i ≡ end
+
+module _ {A : Type 0} {read : ℕ → Reading A} {size : ℕ} (f : Forward read size) where
+  enough-step : (n m i : ℕ) → ((after : ℕ) → i < after → walk read n after ≡ walk read m after)
+      → (r : Reading A) → read i ≡ r → onReading (walk read n) i r ≡ onReading (walk read m) i r
+  enough-step n m i ih (ask q after) e = ap (with q) (ih after (f .goes i q after e .0))
   enough-step n m i ih strange e = refl
   enough-step n m i ih short e = refl
   enough-step n m i ih end e = refl
 
   -- where there are as many turns as bytes left, more change nothing
-  enough : (n m i : ℕ) → length s ≤ i + n → length s ≤ i + m → walk (readAt s) n i ≡ walk (readAt s) m i
+  enough : (n m i : ℕ) → size ≤ i + n → size ≤ i + m → walk read n i ≡ walk read m i
   unfolding walk
   enough zero zero i h g = refl
-  enough zero (suc m) i h g = rw (read-end s i (omega arith))
-  enough (suc n) zero i h g = rw (read-end s i (omega arith))
-  enough (suc n) (suc m) i h g =
-      enough-step n m i (λ after l. enough n m after (omega arith) (omega arith)) (readAt s i) refl
+  enough zero (suc m) i h g = rw (f .stops i (omega arith))
+  enough (suc n) zero i h g = rw (f .stops i (omega arith))
+  enough (suc n) (suc m) i h g = enough-step n m i (λ after l. enough n m after (omega arith) (omega arith)) (read i) refl
 
-  pub parse-step : (i : ℕ) → parseFrom s i ≡ onReading (parseFrom s) i (readAt s i)
-  unfolding parseFrom walk
-  parse-step i = enough (length s) (suc (length s)) i (omega arith) (omega arith)
+  pub walk-step : (i : ℕ) → walk read size i ≡ onReading (walk read size) i (read i)
+  unfolding walk
+  walk-step i = enough size (suc size) i (omega arith) (omega arith)
+
+-- what holds of each record that is read holds of all of them: All is P of each of a list
+module _ {A : Type 0} {read : ℕ → Reading A} (P : A → Type 0) (All : List A → Type 0) (none : All [])
+    (one-more : (q : A) (l : List A) → P q → All l → All (q ∷ l)) (each : (i : ℕ) (q : A) (after : ℕ) → read i ≡ ask q after → P q) where
+  all-step : (n i : ℕ) → ((after : ℕ) → All (walk read n after .requests)) → (r : Reading A) → read i ≡ r
+      → All (onReading (walk read n) i r .requests)
+  all-step n i ih (ask q after) e = one-more q (walk read n after .requests) (each i q after e) (ih after)
+  all-step n i ih strange e = none
+  all-step n i ih short e = none
+  all-step n i ih end e = none
+
+  pub walk-all : (n i : ℕ) → All (walk read n i .requests)
+  unfolding walk
+  walk-all zero i = none
+  walk-all (suc n) i = all-step n i (walk-all n) (read i) refl
+
+pub read-forward : (s : List ℕ) → Forward (readAt s) (length s)
+read-forward s = record { goes = read-goes s; stops = read-end s }
+
+pub parse-step : (s : List ℕ) (i : ℕ) → parseFrom s i ≡ onReading (parseFrom s) i (readAt s i)
+unfolding parseFrom
+parse-step s i = walk-step (read-forward s) i
 
 -- ---- bytes give numbers of 64 bits
 
@@ -93,36 +119,19 @@ made-sized s i Insert h = (le-lt 8 s (i + 2) h, le-lt 8 s (i + 10) h)
 made-sized s i Evict h = tt
 made-sized s i Clear h = tt
 
-abbrev sizes : Reading Request → Type 0
-sizes (ask q after) = Narrow q
-sizes strange = Unit {0}
-sizes short = Unit {0}
-sizes end = Unit {0}
+reading-sized : (s : List ℕ) (i : ℕ) (p : Spot) → Bytes s → (q : Request) (after : ℕ) → reading s i p ≡ ask q after → Narrow q
+reading-sized s i (at k) h q after e = let m : made s i k ≡ q = cc in rw m at (made-sized s i k h)
+reading-sized s i unknown h q after e = let z : _≡_ {A = ℕ} 0 1 = cc in absurd (omega arith)
+reading-sized s i cut h q after e = let z : _≡_ {A = ℕ} 0 1 = cc in absurd (omega arith)
+reading-sized s i over h q after e = let z : _≡_ {A = ℕ} 0 1 = cc in absurd (omega arith)
 
-reading-sized : (s : List ℕ) (i : ℕ) (p : Spot) → Bytes s → sizes (reading s i p)
-reading-sized s i (at k) h = made-sized s i k h
-reading-sized s i unknown h = tt
-reading-sized s i cut h = tt
-reading-sized s i over h = tt
-
-read-sized : (s : List ℕ) (i : ℕ) → Bytes s → sizes (readAt s i)
+read-sized : (s : List ℕ) → Bytes s → (i : ℕ) (q : Request) (after : ℕ) → readAt s i ≡ ask q after → Narrow q
 unfolding readAt
-read-sized s i h = reading-sized s i (spotAt s i) h
-
-turn-sized : (more : ℕ → Parsed Request) (i : ℕ) (r : Reading Request) → sizes r → ((after : ℕ) → AllNarrow (more after .requests)) → AllNarrow (onReading more i r .requests)
-turn-sized more i (ask q after) z ih = (z, ih after)
-turn-sized more i strange z ih = tt
-turn-sized more i short z ih = tt
-turn-sized more i end z ih = tt
-
-walk-sized : (s : List ℕ) (n i : ℕ) → Bytes s → AllNarrow (walk (readAt s) n i .requests)
-unfolding walk
-walk-sized s zero i h = tt
-walk-sized s (suc n) i h = turn-sized (walk (readAt s) n) i (readAt s i) (read-sized s i h) (λ after. walk-sized s n after h)
+read-sized s h i q after e = reading-sized s i (spotAt s i) h q after e
 
 pub parse-sized : (s : List ℕ) → Bytes s → AllNarrow (parse s .requests)
 unfolding parse parseFrom
-parse-sized s h = walk-sized s (length s) 0 h
+parse-sized s h = walk-all Narrow AllNarrow tt (λ q l n m. (n, m)) (read-sized s h) (length s) 0
 
 -- ---- reading from a part that starts in the middle is reading further on in the whole
 

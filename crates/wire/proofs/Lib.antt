@@ -1,3 +1,4 @@
-pub mod SpliceLaws
-pub mod PlaceLaws
+pub mod MarkLaws
+pub mod SpotLaws
 pub mod SurveyLaws
+pub mod SpliceLaws

@@ -20,41 +20,42 @@ use Rattle.rules.specs.Records.{Request, Narrow, AllNarrow}
 use Rattle.rules.specs.Bytes.{row, table, find, Spot, at, unknown, cut, over, within, spotAt, made, Reading, ask, strange, short, end, reading, readAt, End, whole, Parsed, ends, with, onReading, walk, parseFrom, parse}
 use Rattle.rules.proofs.TableLaws.{find-known, row-bytes}
 
--- ---- the tests that a known record has passed
+-- ---- what a spot says of the bytes: all those of a known record are there, and where nothing more is read there are none left
 
-inner : (t : Bool) (j k : Kind) → cond t cut (at j) ≡ at k → (t ≡ false) × (j ≡ k)
-inner true j k h = let z : _≡_ {A = ℕ} 0 1 = cc in absurd (omega arith)
-inner false j k h = (refl, cc)
+abbrev pub Lies : List ℕ → ℕ → Spot → Type 0
+Lies s i (at k) = i + row k .bytes ≤ length s
+Lies s i unknown = Unit {0}
+Lies s i cut = Unit {0}
+Lies s i over = length s ≤ i
 
-picked : (a b : Bool) (left : ℕ) (f : Option Row) (k : Kind) → cond a over (cond b cut (within left f)) ≡ at k
-    → (b ≡ false) × ((r : Row) × (f ≡ some r) × (ltb left (r .bytes) ≡ false) × (r .kind ≡ k))
-picked true b left f k h = let z : _≡_ {A = ℕ} 0 1 = cc in absurd (omega arith)
-picked false true left f k h = let z : _≡_ {A = ℕ} 0 1 = cc in absurd (omega arith)
-picked false false left none k h = let z : _≡_ {A = ℕ} 0 1 = cc in absurd (omega arith)
-picked false false left (some r) k h = let i = inner (ltb left (r .bytes)) (r .kind) k h in (refl, (r, refl, i .0, i .1))
+module _ (s : List ℕ) (i : ℕ) where
+  lies-row : (r : Row) → find (getD s i 0) (getD s (i + 1) 0) table ≡ some r → (t : Bool) → ltb (length s - i) (r .bytes) ≡ t → 2 ≤ length s - i
+      → Lies s i (cond t cut (at (r .kind)))
+  lies-row r f true e h = tt
+  lies-row r f false e h =
+      omega (arith, ltb-false (length s - i) (r .bytes) e, ap (λ x. x .bytes) (find-known (getD s i 0) (getD s (i + 1) 0) r f))
 
--- all its bytes are there
-pub known : (s : List ℕ) (i : ℕ) (k : Kind) → spotAt s i ≡ at k → i + row k .bytes ≤ length s
-unfolding spotAt
-known s i k h =
-    let f = find (getD s i 0) (getD s (i + 1) 0) table in
-    let p = picked (leb (length s) i) (ltb (length s - i) 2) (length s - i) f k h in
-    let r : Row = p .1 .0 in
-    let e : r ≡ row (r .kind) = find-known (getD s i 0) (getD s (i + 1) 0) r (p .1 .1) in
-    omega (arith, ltb-false (length s - i) 2 (p .0), ltb-false (length s - i) (r .bytes) (p .1 .2), ap (λ x. x .bytes) e, ap (λ j. row j .bytes) (p .1 .3))
+  lies : (a b : Bool) (f : Option Row) → leb (length s) i ≡ a → ltb (length s - i) 2 ≡ b → find (getD s i 0) (getD s (i + 1) 0) table ≡ f
+      → Lies s i (cond a over (cond b cut (within (length s - i) f)))
+  lies true b f o c e = leb-true (length s) i o
+  lies false true f o c e = tt
+  lies false false none o c e = tt
+  lies false false (some r) o c e = lies-row r e (ltb (length s - i) (r .bytes)) refl (ltb-false (length s - i) 2 c)
 
-goes : (s : List ℕ) (i : ℕ) (p : Spot) → spotAt s i ≡ p → (q : Request) (after : ℕ) → reading s i p ≡ ask q after → (i < after) × (after ≤ length s)
-goes s i (at k) e q after r =
-    let h : i + row k .bytes ≡ after = cc in
-    omega (arith, known s i k e, row-bytes k)
-goes s i unknown e q after r = let z : _≡_ {A = ℕ} 0 1 = cc in absurd (omega arith)
-goes s i cut e q after r = let z : _≡_ {A = ℕ} 0 1 = cc in absurd (omega arith)
-goes s i over e q after r = let z : _≡_ {A = ℕ} 0 1 = cc in absurd (omega arith)
+  pub spot-lies : Lies s i (spotAt s i)
+  unfolding spotAt
+  spot-lies = lies (leb (length s) i) (ltb (length s - i) 2) (find (getD s i 0) (getD s (i + 1) 0) table) refl refl refl
+
+  goes : (p : Spot) → Lies s i p → (q : Request) (after : ℕ) → reading s i p ≡ ask q after → (i < after) × (after ≤ length s)
+  goes (at k) l q after r = let h : i + row k .bytes ≡ after = cc in omega (arith, row-bytes k)
+  goes unknown l q after r = let z : _≡_ {A = ℕ} 0 1 = cc in absurd (omega arith)
+  goes cut l q after r = let z : _≡_ {A = ℕ} 0 1 = cc in absurd (omega arith)
+  goes over l q after r = let z : _≡_ {A = ℕ} 0 1 = cc in absurd (omega arith)
 
 -- a request that was read lies within the bytes, and the next offset is further
 pub read-goes : (s : List ℕ) (i : ℕ) (q : Request) (after : ℕ) → readAt s i ≡ ask q after → (i < after) × (after ≤ length s)
 unfolding readAt
-read-goes s i q after e = goes s i (spotAt s i) refl q after e
+read-goes s i q after e = goes s i (spotAt s i) (spot-lies s i) q after e
 
 pub read-end : (s : List ℕ) (i : ℕ) → length s ≤ i → readAt s i ≡ end
 unfolding readAt spotAt

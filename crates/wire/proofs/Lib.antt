@@ -1,4 +1,3 @@
-pub mod MarkLaws
 pub mod SpotLaws
 pub mod SurveyLaws
 pub mod SpliceLaws

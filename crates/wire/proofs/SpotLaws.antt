@@ -1,35 +1,67 @@
--- The laws of a record at an offset: each test of the code and what it says of the spot, and the request that is read there.
+-- The laws of a record at an offset: its mark, its row in the table, what each test says of the spot, and the request that is read.
 -- Assumes nothing.
 use Prim.Native.Nat.{ℕ, _+_, _-_, _^_, _≤_, _<_}
 use native.Mathlib.Omega.{arith}
 use mathlib.Core.Path.{_≡_, refl, sym, ap, ap₂, _∙_}
+use mathlib.Core.Bool.{Bool, true, false}
 use mathlib.Core.List.{List}
 use mathlib.Core.Option.{Option, none, some}
-use lib.ListN.{length, getD}
+use lib.Dec.{eqb}
+use lib.ListN.{length, getD, drop}
 use mir.Syntax.{w64}
 use mir.Val.{Fits}
-use borrow.Author.Tests.{le-leb, lt-leb, le-ltb, lt-ltb}
-use Rattle.cells.specs.Cells.{le}
+use borrow.Author.Tests.{eq-eqb, ne-eqb, le-leb, lt-leb, le-ltb, lt-ltb}
 use Rattle.rules.specs.declared.Row.{Row}
 use Rattle.rules.specs.declared.Kind.{Kind}
-use Rattle.rules.specs.declared.Kind.the-variants.{Get, Peek, Remove, Insert, Evict, Clear}
-use Rattle.rules.specs.declared.GuestBlock.{GuestBlock}
-use Rattle.rules.specs.declared.PhysicalBlock.{PhysicalBlock}
+use Rattle.rules.specs.declared.Kind.the-variants.{Get}
 use Rattle.rules.specs.Records.{Request}
-use Rattle.rules.specs.Bytes.{row, table, find, Spot, at, unknown, cut, over, spotAt, made, ask, strange, short, end, reading, readAt}
-use Rattle.rules.proofs.TableLaws.{find-known, row-kind}
-use Rattle.rules.proofs.ParseLaws.{known}
+use Rattle.rules.specs.Bytes.{row, table, marks, find, Spot, at, unknown, cut, over, spotAt, made, Reading, ask, reading, readAt}
+use Rattle.rules.proofs.TableLaws.{find-hit, find-miss, find-over, find-known, row-kind}
+use Rattle.rules.proofs.ParseLaws.{spot-lies}
 use Rattle.wire.specs.declared.KnownRow.{KnownRow}
 use Rattle.wire.specs.declared.RowFound.{RowFound}
 use Rattle.wire.specs.declared.RowFound.the-variants.{Row as Row·, Nothing}
 use Rattle.wire.specs.declared.Spot.{Spot as Spot·}
 use Rattle.wire.specs.declared.Spot.the-variants.{At, Unknown, Cut, End}
 use Rattle.wire.specs.declared.Request.{Request as Request·}
-use Rattle.wire.specs.declared.Request.the-variants.{Get as Get·, Peek as Peek·, Remove as Remove·, Insert as Insert·, Evict as Evict·, Clear as Clear·}
-use Rattle.wire.specs.declared.Record.the-variants.{Ask}
-use Rattle.wire.specs.Wire.{knownRow, rowFound, spotted, meaning, Meets, Spots, Asks}
+use Rattle.wire.specs.Wire.{asked, knownRow, rowFound, spotted, Marked, Meets, Spots, Asks}
 
--- ---- the tests
+-- ---- a mark, and the search along the table
+
+module _ {s : List ℕ} {i : ℕ} {m : List ℕ} where
+  pub marks-first : getD s i 0 ≡ getD m 0 0 → Marked s i m (eqb (getD s (i + 1) 0) (getD m 1 0))
+  marks-first e = record { is = rw (eq-eqb (getD s i 0) (getD m 0 0) e) }
+
+  pub marks-not : (getD s i 0 ≡ getD m 0 0 → ⊥) → Marked s i m (eqb (getD s i 0) (getD m 0 0))
+  marks-not e = record { is = rw (ne-eqb (getD s i 0) (getD m 0 0) e) }
+
+-- i rows were passed: the row of the mark at an offset is in what is left of the table
+pub record Seeking (s : List ℕ) (at i : ℕ) : Type 0 where
+  pub few : i ≤ length table
+  pub on : find (getD s at 0) (getD s (at + 1) 0) table ≡ find (getD s at 0) (getD s (at + 1) 0) (drop i table)
+
+pub seek-start : {s : List ℕ} {at : ℕ} → Seeking s at 0
+seek-start = record { few = omega arith; on = refl }
+
+module _ {s : List ℕ} {at i : ℕ} (g : Seeking s at i) where
+  pub seek-over : length table ≤ i → Meets s at Nothing
+  seek-over h = record { is = ap rowFound (sym (g .on ∙ find-over (getD s at 0) (getD s (at + 1) 0) table i h)) }
+
+  module _ (h : i < length table) {r : Row} (e : r ≡ getD table i (row Get)) {b : Bool} (m : Marked s at (r .mark) b) where
+    tells : (t : Bool) → b ≡ t → marks (getD s at 0) (getD s (at + 1) 0) (getD table i (row Get) .mark) ≡ t
+    tells t is = ap (λ x. marks (getD s at 0) (getD s (at + 1) 0) (x .mark)) (sym e) ∙ sym (m .is) ∙ is
+
+    pub seek-found : b ≡ true → Meets s at (Row· (knownRow r))
+    seek-found y =
+        let hit = find-hit (getD s at 0) (getD s (at + 1) 0) table i (row Get) h (tells true y) in
+        record { is = ap (λ x. Row· (knownRow x)) e ∙ ap rowFound (sym (g .on ∙ hit)) }
+
+    pub seek-next : b ≡ false → Seeking s at (i + 1)
+    seek-next n =
+        let miss = find-miss (getD s at 0) (getD s (at + 1) 0) table i (row Get) h (tells false n) in
+        record { few = omega arith; on = g .on ∙ miss }
+
+-- ---- the tests of what stands at an offset
 
 found-none : (f : Option Row) → rowFound f ≡ Nothing → f ≡ none
 found-none none h = refl
@@ -75,29 +107,12 @@ module _ {s : List ℕ} {i : ℕ} where
 
 -- ---- the request of a kind
 
--- a record that begins with a number has 10 bytes at least, and with two 18
+-- a record of a known kind has that kind's bytes
 pub kind-bytes : {k j : Kind} → k ≡ j → row k .bytes ≡ row j .bytes
 kind-bytes e = ap (λ x. row x .bytes) e
 
-module _ {s : List ℕ} {i : ℕ} {k : Kind} where
-  module _ {a : GuestBlock} (f : a .0 ≡ le 8 s (i + 2)) where
-    pub asks-get : k ≡ Get → Asks s i k (Get· a)
-    asks-get e = record { is = rw (e, f) }
-
-    pub asks-peek : k ≡ Peek → Asks s i k (Peek· a)
-    asks-peek e = record { is = rw (e, f) }
-
-    pub asks-remove : k ≡ Remove → Asks s i k (Remove· a)
-    asks-remove e = record { is = rw (e, f) }
-
-    pub asks-insert : {b : PhysicalBlock} → b .0 ≡ le 8 s (i + 10) → k ≡ Insert → Asks s i k (Insert· a b)
-    asks-insert g e = record { is = rw (e, f, g) }
-
-  pub asks-evict : k ≡ Evict → Asks s i k Evict·
-  asks-evict e = record { is = rw e }
-
-  pub asks-clear : k ≡ Clear → Asks s i k Clear·
-  asks-clear e = record { is = rw e }
+pub asks : {s : List ℕ} {i : ℕ} {k j : Kind} {r : Request·} → k ≡ j → asked r ≡ made s i j → Asks s i k r
+asks e h = record { is = rw e h }
 
 -- ---- what is read
 
@@ -118,24 +133,16 @@ module _ {s : List ℕ} {i : ℕ} {p : Spot·} (f : Spots s i p) where
   pub spot-is : (q : Spot·) → p ≡ q → spotAt s i ≡ unspotted q
   spot-is q is = sym (spot-back (spotAt s i)) ∙ ap unspotted (sym (f .is) ∙ is)
 
-  pub read-unknown : p ≡ Unknown → strange ≡ readAt s i
+  pub reads : {q : Spot·} → p ≡ q → {r : Reading Request} → r ≡ reading s i (unspotted q) → r ≡ readAt s i
   unfolding readAt
-  read-unknown is = ap (reading s i) (sym (spot-is Unknown is))
-
-  pub read-cut : p ≡ Cut → short ≡ readAt s i
-  unfolding readAt
-  read-cut is = ap (reading s i) (sym (spot-is Cut is))
-
-  pub read-over : p ≡ End → end ≡ readAt s i
-  unfolding readAt
-  read-over is = ap (reading s i) (sym (spot-is End is))
+  reads {q} is h = h ∙ ap (reading s i) (sym (spot-is q is))
 
   module _ {e : KnownRow} (is : p ≡ At e) where
     pub row-is : e ≡ knownRow (row (e .kind))
     row-is = let h : At e ≡ At (knownRow (row (e .kind))) = sym is ∙ f .is ∙ ap spotted (spot-is (At e) is) in cc
 
     pub kind-inside : i + row (e .kind) .bytes ≤ length s
-    kind-inside = known s i (e .kind) (spot-is (At e) is)
+    kind-inside = rw (spot-is (At e) is) at (spot-lies s i)
 
     pub spot-inside : i + e .bytes ≤ length s
     spot-inside = omega (arith, kind-inside, ap (λ x. x .bytes) row-is)
@@ -144,9 +151,4 @@ module _ {s : List ℕ} {i : ℕ} {p : Spot·} (f : Spots s i p) where
     spot-fits h = omega (arith, spot-inside)
 
     pub read-request : {q : Request} → q ≡ made s i (e .kind) → ask q (i + e .bytes) ≡ readAt s i
-    unfolding readAt
-    read-request h =
-        ap₂ (λ (x : Request) (y : ℕ). ask x y) h (ap (λ x. i + x .bytes) row-is) ∙ ap (reading s i) (sym (spot-is (At e) is))
-
-    pub read-asked : {q : Request·} → Asks s i (e .kind) q → meaning (Ask q (i + e .bytes)) ≡ readAt s i
-    read-asked a = read-request (a .is)
+    read-request h = reads is (ap₂ (λ (x : Request) (y : ℕ). ask x y) h (ap (λ x. i + x .bytes) row-is))

@@ -4,30 +4,26 @@ use Prim.Native.Nat.{ℕ, _+_, _-_, _*_, _≤_, _<_}
 use native.Mathlib.Omega.{arith}
 use native.Mathlib.Nat.{zero-add, add-zero, add-assoc}
 use mathlib.Core.Path.{_≡_, refl, sym, ap, _∙_}
-use mathlib.Core.List.{List, []}
-use mathlib.Core.Bool.{Bool, true, false, cond}
-use mathlib.Core.Option.{Option, none, some}
-use lib.Dec.{leb, ltb}
-use lib.ListN.{length, getD}
-use borrow.Author.Tests.{leb-true}
+use mathlib.Core.List.{List}
+use lib.ListN.{length}
 use mir.Syntax.{w64}
 use mir.Val.{Fits}
-use Rattle.rules.specs.declared.Row.{Row}
 use Rattle.rules.specs.Parts.{total}
 use Rattle.rules.specs.declared.Kind.{Kind}
 use Rattle.rules.specs.declared.Kind.the-variants.{Get, Peek, Remove, Insert, Evict, Clear}
 use Rattle.rules.specs.Records.{Request}
-use Rattle.rules.specs.Bytes.{row, table, find, Spot, at, unknown, cut, over, within, spotAt, made, roomOf, roomFor, Reading, ask, strange, short, end, readAt, End, unknownAt, cutAt, whole, Parsed, ends, with, onReading, parseFrom}
+use Rattle.rules.specs.Bytes.{row, over, made, roomOf, roomFor, Reading, ask, strange, short, end, readAt, End, unknownAt, cutAt, whole}
+use Rattle.rules.specs.Bytes.{Parsed, ends, with, onReading, parseFrom}
 use Rattle.rules.specs.Verdict.{mostRequestBytes}
 use Rattle.rules.proofs.TableLaws.{row-bytes}
-use Rattle.rules.proofs.ParseLaws.{parse-step}
+use Rattle.rules.proofs.ParseLaws.{Lies, spot-lies, parse-step}
 use Rattle.wire.specs.declared.KnownRow.{KnownRow}
 use Rattle.wire.specs.declared.Spot.{Spot as Spot·}
 use Rattle.wire.specs.declared.Spot.the-variants.{At, Unknown, Cut, End as Over}
 use Rattle.wire.specs.declared.Stop.the-variants.{Whole, Unknown as UnknownStop, Cut as CutStop}
 use Rattle.wire.specs.declared.Survey.{Survey}
 use Rattle.wire.specs.Wire.{endAt, stopOf, surveyed, Spots}
-use Rattle.wire.proofs.SpotLaws.{spot-is, row-is, spot-inside, read-request, read-unknown, read-cut, read-over}
+use Rattle.wire.proofs.SpotLaws.{spot-is, reads, row-is, spot-inside, read-request}
 
 room-made : (s : List ℕ) (i : ℕ) (k : Kind) → roomOf (made s i k) ≡ row k .room
 room-made s i Get = refl
@@ -36,21 +32,6 @@ room-made s i Remove = refl
 room-made s i Insert = refl
 room-made s i Evict = refl
 room-made s i Clear = refl
-
-no-more : (a b : Bool) (left : ℕ) (f : Option Row) → cond a over (cond b cut (within left f)) ≡ over → a ≡ true
-no-more true b left f h = refl
-no-more false true left f h = let z : _≡_ {A = ℕ} 0 1 = cc in absurd (omega arith)
-no-more false false left none h = let z : _≡_ {A = ℕ} 0 1 = cc in absurd (omega arith)
-no-more false false left (some r) h = kind (ltb left (r .bytes)) h
-  where
-    kind : (t : Bool) → cond t cut (at (r .kind)) ≡ over → false ≡ true
-    kind true g = let z : _≡_ {A = ℕ} 0 1 = cc in absurd (omega arith)
-    kind false g = let z : _≡_ {A = ℕ} 0 1 = cc in absurd (omega arith)
-
-all-read : (s : List ℕ) (i : ℕ) → spotAt s i ≡ over → length s ≤ i
-unfolding spotAt
-all-read s i h =
-    leb-true (length s) i (no-more (leb (length s) i) (ltb (length s - i) 2) (length s - i) (find (getD s i 0) (getD s (i + 1) 0) table) h)
 
 -- so much room was asked for before
 abbrev plus : ℕ → Survey → Survey
@@ -82,15 +63,16 @@ module _ {s : List ℕ} {start i n : ℕ} (g : Surveying s start i n) {p : Spot�
   turn r e = g .on ∙ ap (λ q. plus n (surveyed (length s) q)) (parse-step s i ∙ ap (onReading (parseFrom s) i) (sym e))
 
   pub survey-unknown : p ≡ Unknown → record { room = n; at = i; stop = UnknownStop } ≡ surveyed (length s) (parseFrom s start)
-  survey-unknown is = sym (turn strange (read-unknown f is) ∙ stopped (length s) n (unknownAt i))
+  survey-unknown is = sym (turn strange (reads f is refl) ∙ stopped (length s) n (unknownAt i))
 
   pub survey-cut : p ≡ Cut → record { room = n; at = i; stop = CutStop } ≡ surveyed (length s) (parseFrom s start)
-  survey-cut is = sym (turn short (read-cut f is) ∙ stopped (length s) n (cutAt i))
+  survey-cut is = sym (turn short (reads f is refl) ∙ stopped (length s) n (cutAt i))
 
   pub survey-whole : p ≡ Over → record { room = n; at = i; stop = Whole } ≡ surveyed (length s) (parseFrom s start)
   survey-whole is =
-      let e : length s ≡ i = omega (arith, g .within, all-read s i (spot-is f Over is)) in
-      sym (turn end (read-over f is) ∙ stopped (length s) n whole ∙ (λ j. record { room = n; at = e j; stop = Whole }))
+      let o : Lies s i over = rw (spot-is f Over is) at (spot-lies s i) in
+      let e : length s ≡ i = omega (arith, g .within, o) in
+      sym (turn end (reads f is refl) ∙ stopped (length s) n whole ∙ (λ j. record { room = n; at = e j; stop = Whole }))
 
   module _ {e : KnownRow} (is : p ≡ At e) where
     bounds : (2 ≤ e .bytes) × (e .room ≤ 18 * e .bytes)

@@ -4,7 +4,7 @@ use borrow.Author.Needs.{needs}
 use Prim.Native.Nat.{_-_}
 use lib.ListN.{length}
 use Rattle.rules.specs.Bytes.{table}
-use Rattle.wire.proofs.MarkLaws.{Seeking, seek-start, seek-found, seek-next, seek-over}
+use Rattle.wire.proofs.SpotLaws.{Seeking, seek-start, seek-found, seek-next, seek-over}
 use Rattle.wire.proofs.find_row.Statement.{statement}
 use Rattle.wire.proofs.find_row.Tie as tie
 

@@ -1,7 +1,7 @@
 -- `wire::next` meets its contract: the spot, and the request of its kind.
 -- Assumes nothing.
 use borrow.Author.Needs.{needs}
-use Rattle.wire.proofs.SpotLaws.{kind-inside, spot-fits, read-asked, read-unknown, read-cut, read-over}
+use Rattle.wire.proofs.SpotLaws.{kind-inside, spot-fits, read-request, reads}
 use Rattle.wire.proofs.next.Statement.{statement}
 use Rattle.wire.proofs.next.Tie as tie
 
@@ -16,7 +16,7 @@ next-spec =
     (λ c. search needs)
     (λ c. search needs)
     (λ c. search needs)
-    (λ c. search read-asked)
-    (λ c. search read-unknown)
-    (λ c. search read-cut)
-    (λ c. search read-over))
+    (λ c. search read-request)
+    (λ c. search reads)
+    (λ c. search reads)
+    (λ c. search reads))

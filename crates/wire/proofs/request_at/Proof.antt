@@ -2,7 +2,7 @@
 -- Assumes nothing.
 use borrow.Author.Needs.{needs}
 use native.Mathlib.Omega.{arith}
-use Rattle.wire.proofs.SpotLaws.{kind-bytes, asks-get, asks-peek, asks-remove, asks-insert, asks-evict, asks-clear}
+use Rattle.wire.proofs.SpotLaws.{kind-bytes, asks}
 use Rattle.wire.proofs.request_at.Statement.{statement}
 use Rattle.wire.proofs.request_at.Tie as tie
 
@@ -26,9 +26,9 @@ request-at-spec =
     (λ c κs. omega (arith, kind-bytes))
     (λ c. search needs)
     (λ c. search needs)
-    (λ c. search asks-get)
-    (λ c. search asks-peek)
-    (λ c. search asks-remove)
-    (λ c. search asks-insert)
-    (λ c. search asks-evict)
-    (λ c. search asks-clear))
+    (λ c. search asks)
+    (λ c. search asks)
+    (λ c. search asks)
+    (λ c. search asks)
+    (λ c. search asks)
+    (λ c. search asks))

@@ -19,13 +19,7 @@ unfolding table
 find-row-spec =
     tie.close
     (tie.spec
-    Inv-loop
-    μ-loop
-    (λ c. search seek-start)
-    (λ c κs. search needs)
-    (λ c κs. search needs)
-    (λ c. search seek-found)
-    (λ c. search needs)
-    (λ c. search needs)
-    (λ c. search seek-next)
-    (λ c. search seek-over))
+    Inv-loop μ-loop
+    (λ c. search seek-start) (λ c κs. search needs) (λ c κs. search needs)
+    (λ c. search seek-found) (λ c. search needs) (λ c. search needs)
+    (λ c. search seek-next) (λ c. search seek-over))

@@ -9,14 +9,6 @@ pub next-spec : {M : Type 1} → statement M
 next-spec =
     tie.close
     (tie.spec
-    (λ c κs. search needs)
-    (λ c. search needs)
-    (λ c κs. search kind-inside)
-    (λ c. search spot-fits)
-    (λ c. search needs)
-    (λ c. search needs)
-    (λ c. search needs)
-    (λ c. search read-request)
-    (λ c. search reads)
-    (λ c. search reads)
-    (λ c. search reads))
+    (λ c κs. search needs) (λ c. search needs) (λ c κs. search kind-inside) (λ c. search spot-fits)
+    (λ c. search needs) (λ c. search needs) (λ c. search needs)
+    (λ c. search read-request) (λ c. search reads) (λ c. search reads) (λ c. search reads))

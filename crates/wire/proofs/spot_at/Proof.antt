@@ -9,13 +9,6 @@ pub spot-at-spec : {M : Type 1} → statement M
 spot-at-spec =
     tie.close
     (tie.spec
-    (λ c. search spot-end)
-    (λ c. search needs)
-    (λ c. search spot-short)
-    (λ c κs. search needs)
-    (λ c. search needs)
-    (λ c. search needs)
-    (λ c. search needs)
-    (λ c. search spot-cut)
-    (λ c. search spot-unknown)
-    (λ c. search spot-found))
+    (λ c. search spot-end) (λ c. search needs) (λ c. search spot-short)
+    (λ c κs. search needs) (λ c. search needs) (λ c. search needs) (λ c. search needs)
+    (λ c. search spot-cut) (λ c. search spot-unknown) (λ c. search spot-found))

@@ -18,18 +18,7 @@ pub survey-from-spec : {M : Type 1} → statement M
 survey-from-spec =
     tie.close
     (tie.spec
-    Inv-loop
-    μ-loop
-    (λ c. search survey-start)
-    (λ c κs. search needs)
-    (λ c. search needs)
-    (λ c. search spot-fits)
-    (λ c. search room-fits)
-    (λ c. search survey-less)
-    (λ c. search survey-next)
-    (λ c. search needs)
-    (λ c. search survey-unknown)
-    (λ c. search needs)
-    (λ c. search survey-cut)
-    (λ c. search needs)
-    (λ c. search survey-whole))
+    Inv-loop μ-loop
+    (λ c. search survey-start) (λ c κs. search needs) (λ c. search needs)
+    (λ c. search spot-fits) (λ c. search room-fits) (λ c. search survey-less) (λ c. search survey-next)
+    (λ c. search needs) (λ c. search survey-unknown) (λ c. search needs) (λ c. search survey-cut) (λ c. search needs) (λ c. search survey-whole))

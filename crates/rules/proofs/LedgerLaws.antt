@@ -1,24 +1,23 @@
 -- Demand 3: nothing leaves untold.
 -- Assumes nothing.
-use Prim.Native.Nat.{ℕ, zero, suc, _+_, _≤_, _<_}
+use Prim.Native.Nat.{ℕ, suc, _+_, _≤_, _<_}
 use native.Mathlib.Omega.{arith}
 use mathlib.Core.Path.{_≡_, refl, ap, _∙_, sym}
-use mathlib.Core.Logic.{_⊎_, inl, inr}
+use mathlib.Core.Logic.{inl, inr}
 use mathlib.Core.Bool.{Bool, true, false, cond, _&&_}
 use mathlib.Core.List.{List, [], _∷_, _++_, append-assoc, append-nil}
 use lib.Dec.{eqb}
 use borrow.Author.Tests.{eqb-true, eq-eqb}
 use Rattle.rules.specs.Parts.{bit, total, Pop, empty, popped, popTail}
-use Rattle.rules.specs.State.{Entry, Limits, State, Queue, Small, Main, words, keyIs, fresh, raise, revalue, cool, queueOf, setQueue, setGhosts, pushTo, emptyAt, overAll, residents, one, warmth, keyed, places, putAt, Place, nowhere, here, place, Fine, Sound}
-use Rattle.rules.specs.Records.{Request, GT, PK, RM, IN, EV, CL, Reply, MI, NW, EX, Narrow, AllNarrow, Outcome, says, tellFirst}
+use Rattle.rules.specs.State.{Entry, Limits, State, Queue, Small, Main, keyIs, fresh, raise, revalue, cool, queueOf, setGhosts, emptyAt, residents, warmth, keyed, places, Place, nowhere, here, place, Fine, Sound}
+use Rattle.rules.specs.Records.{Request, GT, PK, RM, IN, EV, CL, Reply, MI, NW, AllNarrow, Outcome, says, tellFirst}
 use Rattle.rules.specs.Ghosts.{Removed, removeGhost}
-use Rattle.rules.specs.Eviction.{tell, wanted, back, Evicted, evictIfFull, untouched, Walk}
+use Rattle.rules.specs.Eviction.{tell, wanted, back, Evicted, evictIfFull, Walk}
 use Rattle.rules.specs.Requests.{run, apply, onGet, onPeek, onRemove, onInsert, onNew, onFirst, onSecond, onEvictOne, admits, arrive, hands, firstQueue}
-use Rattle.rules.specs.Ledger.{same, held, handedIn, handedOut, keyOf, clears, Answered, history, Ledger, blank, booked, ledger, Balanced, served, histories}
+use Rattle.rules.specs.Ledger.{same, held, handedIn, handedOut, clears, Answered, history, Ledger, blank, booked, ledger, Balanced, served, histories}
 use Rattle.rules.proofs.PartsLaws.{total-append, TailView, pop-law}
 use Rattle.rules.proofs.StateLaws.{push-total, pop-total, put-total, back-total, Places, place-law}
-use Rattle.rules.proofs.EvictionLaws.{Evicts}
-use Rattle.rules.proofs.SoundLaws.{Roomy, roomy-law, walk-total, Unghosted, remove-law, apply-sound, run-sound, empty-sound}
+use Rattle.rules.proofs.SoundLaws.{Roomy, roomy-law, walk-total, apply-sound, run-sound, empty-sound}
 
 module _ (k v : ℕ) where
   abbrev pair : Entry → ℕ

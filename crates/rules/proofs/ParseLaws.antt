@@ -2,9 +2,9 @@
 -- Assumes nothing.
 use Prim.Native.Nat.{ℕ, zero, suc, _+_, _-_, _≤_, _<_}
 use native.Mathlib.Omega.{arith}
-use native.Mathlib.Nat.{add-assoc, add-zero}
+use native.Mathlib.Nat.{add-assoc}
 use borrow.Author.Tests.{le-leb, lt-leb, leb-true, leb-false, ltb-false}
-use mathlib.Core.Path.{_≡_, refl, sym, ap, _∙_}
+use mathlib.Core.Path.{_≡_, refl, ap}
 use mathlib.Core.Bool.{Bool, true, false, cond}
 use mathlib.Core.List.{List, [], _∷_}
 use mathlib.Core.Option.{Option, none, some}
@@ -17,7 +17,7 @@ use Rattle.rules.specs.declared.Kind.{Kind}
 use Rattle.rules.specs.declared.Kind.the-variants.{Get, Peek, Remove, Insert, Evict, Clear}
 use Rattle.rules.specs.declared.Row.{Row}
 use Rattle.rules.specs.Records.{Request, Narrow, AllNarrow}
-use Rattle.rules.specs.Bytes.{row, table, find, Spot, at, unknown, cut, over, within, spotAt, made, Reading, ask, strange, short, end, reading, readAt, End, whole, Parsed, ends, with, onReading, walk, parseFrom, parse}
+use Rattle.rules.specs.Bytes.{row, table, find, Spot, at, unknown, cut, over, within, spotAt, made, Reading, ask, strange, short, end, reading, readAt, with, onReading, walk, parseFrom, parse}
 use Rattle.rules.proofs.TableLaws.{find-known, row-bytes}
 
 -- ---- what a spot says of the bytes: all those of a known record are there, and where nothing more is read there are none left

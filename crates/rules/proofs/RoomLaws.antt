@@ -1,21 +1,20 @@
 -- The replies to a request take no more bytes than the table's reply room.
 -- Assumes nothing.
-use Prim.Native.Nat.{ℕ, zero, suc, _+_, _/_, _≤_}
+use Prim.Native.Nat.{ℕ, suc, _≤_}
 use native.Mathlib.Omega.{arith}
 use mathlib.Core.Path.{_≡_, refl, ap, sym, _∙_}
-use mathlib.Core.Logic.{_⊎_, inl, inr}
+use mathlib.Core.Logic.{inl, inr}
 use mathlib.Core.Bool.{Bool, true, false, cond}
 use mathlib.Core.List.{List, [], _∷_, _++_, append-assoc}
 use lib.ListN.{length, length-append}
-use lib.Dec.{eqb, ltb}
 use Rattle.rules.specs.declared.Kind.the-variants.{Get, Peek, Remove, Insert, Evict}
 use Rattle.rules.specs.Parts.{total, Pop, empty, popped, popTail}
 use Rattle.rules.specs.State.{Entry, State, Queue, Small, Main, queueOf, setGhosts, Place, nowhere, here, place, Sound}
-use Rattle.rules.specs.Records.{Request, GT, PK, RM, IN, EV, CL, Reply, MI, OK, HI, RE, NW, GO, EX, ES, EM, AllNarrow, Outcome, says}
+use Rattle.rules.specs.Records.{Request, GT, PK, RM, IN, EV, CL, Reply, MI, OK, HI, RE, NW, GO, EX, ES, EM, AllNarrow, says}
 use Rattle.rules.specs.Ghosts.{Removed, removeGhost}
 use Rattle.rules.specs.Eviction.{tell, wanted, back, Evicted, evictIfFull}
 use Rattle.rules.specs.Requests.{run, apply, onGet, onPeek, onRemove, onInsert, onNew, onFirst, onSecond, onEvictOne, admits, arrive, hands, firstQueue}
-use Rattle.rules.specs.Bytes.{bytesOf, encode, encodeAll, row, kindOf, roomOf, roomFor}
+use Rattle.rules.specs.Bytes.{bytesOf, encode, encodeAll, row, roomOf, roomFor}
 use Rattle.rules.proofs.PartsLaws.{total-append}
 use Rattle.rules.proofs.SoundLaws.{Roomy, roomy-law, apply-sound}
 use Rattle.rules.proofs.TripLaws.{bytes-length}

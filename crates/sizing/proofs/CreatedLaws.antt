@@ -5,7 +5,7 @@ use Prim.Native.Nat.{ℕ}
 use native.Mathlib.Omega.{arith}
 use lib.Dec.{ltb}
 use lib.Ieee.{Float}
-use Rattle.rules.specs.State.{Limits, emptyAt, Fine, Sound}
+use Rattle.rules.specs.State.{Limits, Fine}
 use Rattle.rules.specs.Sizing.{Sized, limits, refused as misfit, sizing}
 use Rattle.rules.specs.Verdict.{storeBytes, onSized, create}
 use Rattle.rules.proofs.SoundLaws.{empty-sound}

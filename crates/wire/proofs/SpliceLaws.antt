@@ -1,12 +1,12 @@
 -- The laws of a run of bytes written into a list.
 -- Assumes nothing.
-use Prim.Native.Nat.{ℕ, zero, suc, _+_, _-_, _/_, _%_, _≤_, _<_}
+use Prim.Native.Nat.{ℕ, zero, suc, _+_, _/_, _%_, _≤_}
 use native.Mathlib.Omega.{arith}
 use native.Mathlib.Numerals.{add-one}
-use native.Mathlib.Nat.{zero-add, add-zero, add-suc, suc-add, add-assoc}
+use native.Mathlib.Nat.{zero-add, add-zero, add-suc, suc-add}
 use mathlib.Core.Path.{_≡_, refl, sym, ap, _∙_}
 use mathlib.Core.List.{List, [], _∷_, _++_, append-assoc, append-nil}
-use lib.ListN.{length, getD, take, drop, set, length-append, length-set, take-append-drop}
+use lib.ListN.{length, getD, take, drop, set, length-append, take-append-drop}
 use lib.Seq.{sets, sets-eq, length-sets, length-take-le, take-at, drop-at, drop-drop}
 use Rattle.cells.specs.Cells.{putLe}
 use Rattle.rules.specs.Bytes.{bytesOf, encode}

@@ -33,19 +33,19 @@ pub enum Reply {
 }
 
 // What a row of the table says of a record whose mark was met.
-pub struct KnownRow {
+struct KnownRow {
     pub kind: Kind,
     pub bytes: usize,
     pub room: usize,
 }
 
-pub enum RowFound {
+enum RowFound {
     Row(KnownRow),
     Nothing,
 }
 
 // What stands at an offset, by its mark and its length.
-pub enum Spot {
+enum Spot {
     At(KnownRow),
     // A mark that no row has.
     Unknown,
@@ -105,7 +105,7 @@ fn find_row(s: &[u8], at: usize) -> RowFound
     RowFound::Nothing
 }
 
-pub fn spot_at(s: &[u8], at: usize) -> Spot
+fn spot_at(s: &[u8], at: usize) -> Spot
     ensures { λ r. ⌜ Spots (now (s .entry)) at r ⌝ }
 {
     if s.len() <= at {

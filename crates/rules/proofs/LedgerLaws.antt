@@ -1,6 +1,6 @@
 -- Demand 3: nothing leaves untold.
 -- Assumes nothing.
-use Prim.Native.Nat.{ℕ, suc, _+_, _≤_, _<_}
+use Prim.Native.Nat.{ℕ, suc, _+_, _≤_}
 use native.Mathlib.Omega.{arith}
 use mathlib.Core.Path.{_≡_, refl, ap, _∙_, sym}
 use mathlib.Core.Logic.{inl, inr}
@@ -9,7 +9,8 @@ use mathlib.Core.List.{List, [], _∷_, _++_, append-assoc, append-nil}
 use lib.Dec.{eqb}
 use borrow.Author.Tests.{eqb-true, eq-eqb}
 use Rattle.rules.specs.Parts.{bit, total, Pop, empty, popped, popTail}
-use Rattle.rules.specs.State.{Entry, Limits, State, Queue, Small, Main, keyIs, fresh, raise, revalue, cool, queueOf, setGhosts, emptyAt, residents, warmth, keyed, places, Place, nowhere, here, place, Fine, Sound}
+use Rattle.rules.specs.State.{Entry, Limits, State, Queue, Small, Main, keyIs, fresh, raise, revalue, cool, queueOf, setGhosts, emptyAt, residents}
+use Rattle.rules.specs.State.{warmth, keyed, places, Place, nowhere, here, place, Fine, Sound}
 use Rattle.rules.specs.Records.{Request, GT, PK, RM, IN, EV, CL, Reply, MI, NW, AllNarrow, Outcome, says, tellFirst}
 use Rattle.rules.specs.Ghosts.{Removed, removeGhost}
 use Rattle.rules.specs.Eviction.{tell, wanted, back, Evicted, evictIfFull, Walk}
@@ -62,7 +63,8 @@ module _ (k v : ℕ) where
   arrive-ledger q a b σ w r =
       omega (arith, push-total pair q (fresh a b) (w .state), total-append (handedOut k v (IN a b)) (w .told) (NW (w .pops) ∷ []), roomy-ledger (IN a b) σ w r)
 
-  new-ledger : (a b : ℕ) (σ : State) (w : Removed) → Sound σ → held k v (onNew a b σ w .state) + out (IN a b) (onNew a b σ w .replies) ≡ same k v a b + held k v σ
+  new-ledger : (a b : ℕ) (σ : State) (w : Removed) → Sound σ
+      → held k v (onNew a b σ w .state) + out (IN a b) (onNew a b σ w .replies) ≡ same k v a b + held k v σ
   unfolding onNew
   new-ledger a b σ w s = let τ = setGhosts (w .ghosts) σ in arrive-ledger (admits (w .was)) a b τ (evictIfFull τ) (roomy-law τ (s .fine))
 
@@ -89,7 +91,8 @@ module _ (k v : ℕ) where
       pick true = omega (arith, back-total pair Main r e σ h)
       pick false = omega (arith, pop-total pair Main r e σ h)
 
-  first-ledger : (q : Queue) (σ : State) (p : Pop Entry) → TailView (queueOf q σ) p → held k v (onFirst q σ p .state) + out EV (onFirst q σ p .replies) ≡ held k v σ
+  first-ledger : (q : Queue) (σ : State) (p : Pop Entry) → TailView (queueOf q σ) p
+      → held k v (onFirst q σ p .state) + out EV (onFirst q σ p .replies) ≡ held k v σ
   unfolding onFirst
   first-ledger q σ empty h = omega arith
   first-ledger q σ (popped r e) h = pick (wanted e)
@@ -109,8 +112,9 @@ module _ (k v : ℕ) where
   evict-one-ledger σ w r =
       let τ = w .state in
       let q = firstQueue τ in
-      let o = onFirst q τ (popTail (queueOf q τ)) in
-      omega (arith, roomy-ledger EV σ w r, first-ledger q τ (popTail (queueOf q τ)) (pop-law (queueOf q τ)), total-append (handedOut k v EV) (w .told) (o .replies))
+      let p = popTail (queueOf q τ) in
+      let o = onFirst q τ p in
+      omega (arith, roomy-ledger EV σ w r, first-ledger q τ p (pop-law (queueOf q τ)), total-append (handedOut k v EV) (w .told) (o .replies))
 
   -- one request
   pub apply-ledger : (σ : State) (r : Request) → Sound σ → clears r ≡ false
@@ -138,7 +142,8 @@ module _ (k v : ℕ) where
   book σ r l s b false e = record { untold = omega (arith, apply-ledger σ r s e, b .untold) }
 
   -- a run of requests keeps the ledger balanced, whatever stood in it before
-  pub run-ledger : (σ : State) (rs : List Request) (l : Ledger) → AllNarrow rs → Sound σ → Balanced k v l σ → Balanced k v (ledger k v (history σ rs) l) (run σ rs .state)
+  pub run-ledger : (σ : State) (rs : List Request) (l : Ledger) → AllNarrow rs → Sound σ → Balanced k v l σ
+      → Balanced k v (ledger k v (history σ rs) l) (run σ rs .state)
   unfolding run history ledger
   run-ledger σ [] l z s b = b
   run-ledger σ (r ∷ rs) l z s b =
@@ -209,9 +214,12 @@ arrive-full q k v g σ w full absent (inr h) =
 
 new-full : (k v : ℕ) (σ : State) (w : Removed) → Sound σ → σ .limits .capacity ≤ residents σ → keyed k σ ≡ 0 → FullInsert k v σ (onNew k v σ w)
 unfolding onNew
-new-full k v σ w s full absent = let τ = setGhosts (w .ghosts) σ in arrive-full (admits (w .was)) k v (w .ghosts) σ (evictIfFull τ) full absent (roomy-law τ (s .fine))
+new-full k v σ w s full absent =
+    let τ = setGhosts (w .ghosts) σ in
+    arrive-full (admits (w .was)) k v (w .ghosts) σ (evictIfFull τ) full absent (roomy-law τ (s .fine))
 
-insert-full : (k v : ℕ) (σ : State) (p : Place) → Places k σ p → keyed k σ ≡ 0 → Sound σ → σ .limits .capacity ≤ residents σ → FullInsert k v σ (onInsert k v σ p)
+insert-full : (k v : ℕ) (σ : State) (p : Place) → Places k σ p → keyed k σ ≡ 0 → Sound σ → σ .limits .capacity ≤ residents σ
+    → FullInsert k v σ (onInsert k v σ p)
 unfolding onInsert
 insert-full k v σ nowhere h absent s full = new-full k v σ (removeGhost k (σ .ghosts)) s full absent
 insert-full k v σ (here q b e a) h absent s full =
@@ -220,16 +228,6 @@ insert-full k v σ (here q b e a) h absent s full =
 pub full-insert : (k v : ℕ) (σ : State) → Sound σ → keyed k σ ≡ 0 → residents σ ≡ σ .limits .capacity → FullInsert k v σ (apply σ (IN k v))
 unfolding apply
 full-insert k v σ s absent full = insert-full k v σ (place k σ) (place-law k σ) absent s (omega arith)
-
--- ---- a new key where there is room: nothing leaves, and no pop is told
-
-calm : (τ : State) (w : Evicted) → residents τ < τ .limits .capacity → Roomy τ w → w .told ++ (NW (w .pops) ∷ []) ≡ NW 0 ∷ []
-calm τ w less (inl h) = rw (h .1)
-calm τ w less (inr h) = absurd (omega (arith, h .0))
-
-pub room-insert : (k v : ℕ) (σ : State) (w : Removed) → Sound σ → residents σ < σ .limits .capacity → onNew k v σ w .replies ≡ NW 0 ∷ []
-unfolding onNew
-room-insert k v σ w s less = let τ = setGhosts (w .ghosts) σ in calm τ (evictIfFull τ) less (roomy-law τ (s .fine))
 
 -- ---- demand 3, put together
 

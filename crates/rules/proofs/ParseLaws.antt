@@ -17,7 +17,8 @@ use Rattle.rules.specs.declared.Kind.{Kind}
 use Rattle.rules.specs.declared.Kind.the-variants.{Get, Peek, Remove, Insert, Evict, Clear}
 use Rattle.rules.specs.declared.Row.{Row}
 use Rattle.rules.specs.Records.{Request, Narrow, AllNarrow}
-use Rattle.rules.specs.Bytes.{row, table, find, Spot, at, unknown, cut, over, within, spotAt, made, Reading, ask, strange, short, end, reading, readAt, with, onReading, walk, parseFrom, parse}
+use Rattle.rules.specs.Bytes.{row, table, find, Spot, at, unknown, cut, over, within, spotAt, made, Reading, ask, strange, short, end, reading, readAt}
+use Rattle.rules.specs.Bytes.{with, onReading, walk, parseFrom, parse}
 use Rattle.rules.proofs.TableLaws.{find-known, row-bytes}
 
 -- ---- what a spot says of the bytes: all those of a known record are there, and where nothing more is read there are none left

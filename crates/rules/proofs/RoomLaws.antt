@@ -69,7 +69,9 @@ roomy-size σ w (inr h) = rw (h .1 .told-is) (pair (h .1 .queue) (h .1 .entry))
     pair Small e = omega arith
     pair Main e = omega arith
 
-place-size : (σ : State) (p : Place) → (total size (onGet σ p .replies) ≤ row Get .room) × (total size (onPeek σ p .replies) ≤ row Peek .room) × (total size (onRemove σ p .replies) ≤ row Remove .room)
+place-size : (σ : State) (p : Place)
+    → (total size (onGet σ p .replies) ≤ row Get .room) × (total size (onPeek σ p .replies) ≤ row Peek .room)
+    × (total size (onRemove σ p .replies) ≤ row Remove .room)
 unfolding onGet onPeek onRemove
 place-size σ nowhere = omega arith
 place-size σ (here q b e a) = omega arith

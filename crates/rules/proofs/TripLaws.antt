@@ -12,7 +12,8 @@ use Rattle.cells.specs.Cells.{le}
 use mathlib.Core.Option.{some}
 use Rattle.rules.specs.declared.Row.{Row}
 use Rattle.rules.specs.Records.{Request, GT, PK, RM, IN, EV, CL, Narrow, AllNarrow}
-use Rattle.rules.specs.Bytes.{bytesOf, row, kindOf, table, find, at, spotAt, made, ask, reading, readAt, whole, Parsed, with, onReading, parseFrom, parse, written, allWritten}
+use Rattle.rules.specs.Bytes.{bytesOf, row, kindOf, table, find, at, spotAt, made, ask, reading, readAt, whole, Parsed, with, onReading, parseFrom, parse}
+use Rattle.rules.specs.Bytes.{written, allWritten}
 use Rattle.rules.proofs.ParseLaws.{parse-step, read-end, le-drop, spot-drop, made-drop}
 
 pub bytes-length : (w v : ℕ) → length (bytesOf w v) ≡ w

@@ -9,7 +9,8 @@ use lib.ListN.{length, getD, take, drop}
 use Rattle.rules.specs.declared.Kind.{Kind}
 use Rattle.rules.specs.declared.Row.{Row}
 use Rattle.rules.specs.Records.{Request, GT, PK, RM, IN, EV, CL, Reply, MI, OK, HI, RE, NW, GO, EX, ES, EM}
-use Rattle.rules.specs.Bytes.{row, table, Spot, at, unknown, cut, over, marks, find, spotAt, made, Reading, ask, strange, short, end, End, whole, unknownAt, cutAt}
+use Rattle.rules.specs.Bytes.{row, table, Spot, at, unknown, cut, over, marks, find, spotAt, made, Reading, ask, strange, short, end, End, whole, unknownAt}
+use Rattle.rules.specs.Bytes.{cutAt}
 use Rattle.rules.specs.Bytes.{Parsed, roomFor}
 use Rattle.wire.specs.declared.KnownRow.{KnownRow}
 use Rattle.wire.specs.declared.RowFound.{RowFound}

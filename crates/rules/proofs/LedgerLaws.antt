@@ -8,17 +8,17 @@ use mathlib.Core.Bool.{Bool, true, false, cond, _&&_}
 use mathlib.Core.List.{List, [], _∷_, _++_, append-assoc, append-nil}
 use lib.Dec.{eqb}
 use borrow.Author.Tests.{eqb-true, eq-eqb}
-use Rattle.rules.specs.Parts.{bit, total, Pop, empty, popped, popTail}
+use Rattle.rules.specs.Parts.{bit, total, popTail}
 use Rattle.rules.specs.State.{Entry, Limits, State, Queue, Small, Main, keyIs, fresh, raise, revalue, cool, queueOf, setGhosts, emptyAt, residents}
 use Rattle.rules.specs.State.{warmth, keyed, places, Place, nowhere, here, place, Fine, Sound}
-use Rattle.rules.specs.Records.{Request, GT, PK, RM, IN, EV, CL, Reply, MI, NW, AllNarrow, Outcome, says, tellFirst}
+use Rattle.rules.specs.Records.{Request, GT, PK, RM, IN, EV, CL, Reply, NW, AllNarrow, Outcome, tellFirst}
 use Rattle.rules.specs.Ghosts.{Removed, removeGhost}
-use Rattle.rules.specs.Eviction.{tell, wanted, back, Evicted, evictIfFull, Walk}
-use Rattle.rules.specs.Requests.{run, apply, onGet, onPeek, onRemove, onInsert, onNew, onFirst, onSecond, onEvictOne, admits, arrive, hands, firstQueue}
+use Rattle.rules.specs.Eviction.{tell, Evicted, evictIfFull, Walk}
+use Rattle.rules.specs.Requests.{run, apply, onGet, onPeek, onRemove, onInsert, onNew, onFirst, onEvictOne, admits, arrive, firstQueue}
 use Rattle.rules.specs.Ledger.{same, held, handedIn, handedOut, clears, Answered, history, Ledger, blank, booked, ledger, Balanced, served, histories}
-use Rattle.rules.proofs.PartsLaws.{total-append, TailView, pop-law}
+use Rattle.rules.proofs.PartsLaws.{total-append, pop-law}
 use Rattle.rules.proofs.StateLaws.{push-total, pop-total, put-total, back-total, Places, place-law}
-use Rattle.rules.proofs.SoundLaws.{Roomy, roomy-law, walk-total, apply-sound, run-sound, empty-sound}
+use Rattle.rules.proofs.SoundLaws.{Roomy, roomy-law, walk-total, Ends, first-ends, apply-sound, run-sound, empty-sound}
 
 module _ (k v : ℕ) where
   abbrev pair : Entry → ℕ
@@ -80,32 +80,13 @@ module _ (k v : ℕ) where
         ap (λ z. same k v z b) (eqb-true a (e .key) (h .1)),
       )
 
-  second-ledger : (σ : State) (p : Pop Entry) → TailView (σ .main) p → held k v (onSecond σ p .state) + out EV (onSecond σ p .replies) ≡ held k v σ
-  unfolding onSecond
-  second-ledger σ empty h = omega arith
-  second-ledger σ (popped r e) h = pick (wanted e)
-    where
-      pick : (t : Bool)
-          → held k v (cond t (says (back Main r e σ) MI) (hands Main r e σ) .state)
-          + out EV (cond t (says (back Main r e σ) MI) (hands Main r e σ) .replies) ≡ held k v σ
-      pick true = omega (arith, back-total pair Main r e σ h)
-      pick false = omega (arith, pop-total pair Main r e σ h)
-
-  first-ledger : (q : Queue) (σ : State) (p : Pop Entry) → TailView (queueOf q σ) p
-      → held k v (onFirst q σ p .state) + out EV (onFirst q σ p .replies) ≡ held k v σ
-  unfolding onFirst
-  first-ledger q σ empty h = omega arith
-  first-ledger q σ (popped r e) h = pick (wanted e)
-    where
-      σ′ : State
-      σ′ = back q r e σ
-
-      both : Bool → Outcome
-      both t = cond t (onSecond σ′ (popTail (σ′ .main))) (hands q r e σ)
-
-      pick : (t : Bool) → held k v (both t .state) + out EV (both t .replies) ≡ held k v σ
-      pick true = omega (arith, back-total pair q r e σ h, cool-pair q e, second-ledger σ′ (popTail (σ′ .main)) (pop-law (σ′ .main)))
-      pick false = omega (arith, pop-total pair q r e σ h)
+  ledger-ends : Ends (λ σ o. held k v (o .state) + out EV (o .replies) ≡ held k v σ)
+  ledger-ends =
+      record {
+        none = λ σ. omega arith;
+        handed = λ q r e σ h. omega (arith, pop-total pair q r e σ h);
+        sent = λ q r e σ h l. omega (arith, back-total pair q r e σ h, cool-pair q e);
+      }
 
   evict-one-ledger : (σ : State) (w : Evicted) → Roomy σ w → held k v (onEvictOne w .state) + out EV (onEvictOne w .replies) ≡ held k v σ
   unfolding onEvictOne
@@ -114,7 +95,7 @@ module _ (k v : ℕ) where
       let q = firstQueue τ in
       let p = popTail (queueOf q τ) in
       let o = onFirst q τ p in
-      omega (arith, roomy-ledger EV σ w r, first-ledger q τ p (pop-law (queueOf q τ)), total-append (handedOut k v EV) (w .told) (o .replies))
+      omega (arith, roomy-ledger EV σ w r, first-ends ledger-ends q τ p (pop-law (queueOf q τ)), total-append (handedOut k v EV) (w .told) (o .replies))
 
   -- one request
   pub apply-ledger : (σ : State) (r : Request) → Sound σ → clears r ≡ false

@@ -35,10 +35,14 @@ module _ {s : List ℕ} {i : ℕ} {m : List ℕ} where
   pub marks-not : (getD s i 0 ≡ getD m 0 0 → ⊥) → Marked s i m (eqb (getD s i 0) (getD m 0 0))
   marks-not e = record { is = rw (ne-eqb (getD s i 0) (getD m 0 0) e) }
 
--- i rows were passed: the row of the mark at an offset is in what is left of the table
+-- the row of the mark at an offset, in a part of the table
+abbrev seek : List ℕ → ℕ → List Row → Option Row
+seek s i rows = find (getD s i 0) (getD s (i + 1) 0) rows
+
+-- i rows were passed: what is sought is in what is left of the table
 pub record Seeking (s : List ℕ) (at i : ℕ) : Type 0 where
   pub few : i ≤ length table
-  pub on : find (getD s at 0) (getD s (at + 1) 0) table ≡ find (getD s at 0) (getD s (at + 1) 0) (drop i table)
+  pub on : seek s at table ≡ seek s at (drop i table)
 
 pub seek-start : {s : List ℕ} {at : ℕ} → Seeking s at 0
 seek-start = record { few = omega arith; on = refl }
@@ -53,8 +57,8 @@ module _ {s : List ℕ} {at i : ℕ} (g : Seeking s at i) where
 
     pub seek-found : b ≡ true → Meets s at (Row· (knownRow r))
     seek-found y =
-        let hit = find-hit (getD s at 0) (getD s (at + 1) 0) table i (row Get) h (tells true y) in
-        record { is = ap (λ x. Row· (knownRow x)) e ∙ ap rowFound (sym (g .on ∙ hit)) }
+        let hit : seek s at (drop i table) ≡ some r = find-hit (getD s at 0) (getD s (at + 1) 0) table i (row Get) h (tells true y) ∙ ap some (sym e) in
+        record { is = ap rowFound (sym (g .on ∙ hit)) }
 
     pub seek-next : b ≡ false → Seeking s at (i + 1)
     seek-next n =
@@ -85,12 +89,12 @@ module _ {s : List ℕ} {i : ℕ} where
       pub spot-unknown : found ≡ Nothing → Spots s i Unknown
       unfolding spotAt
       spot-unknown e =
-          let n = found-none (find (getD s i 0) (getD s (i + 1) 0) table) (sym (f .is) ∙ e) in
+          let n = found-none (seek s i table) (sym (f .is) ∙ e) in
           record { is = rw (lt-leb (length s) i h, le-ltb (length s - i) 2 g, n) }
 
       module _ {e : KnownRow} (is : found ≡ Row· e) where
-        met : (r : Row) × (find (getD s i 0) (getD s (i + 1) 0) table ≡ some r) × (e ≡ knownRow r)
-        met = found-some (find (getD s i 0) (getD s (i + 1) 0) table) e (sym (f .is) ∙ is)
+        met : (r : Row) × (seek s i table ≡ some r) × (e ≡ knownRow r)
+        met = found-some (seek s i table) e (sym (f .is) ∙ is)
 
         pub spot-cut : length s - i < e .bytes → Spots s i Cut
         unfolding spotAt

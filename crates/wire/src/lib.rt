@@ -95,7 +95,7 @@ fn find_row(s: &[u8], at: usize) -> RowFound
         if marked(s, at, &row.mark) {
             let kind = row.kind;
             return RowFound::Row(KnownRow {
-                kind: kind,
+                kind,
                 bytes: row.bytes,
                 room: row.room,
             });
@@ -105,6 +105,7 @@ fn find_row(s: &[u8], at: usize) -> RowFound
     RowFound::Nothing
 }
 
+// What stands at an offset.
 fn spot_at(s: &[u8], at: usize) -> Spot
     ensures { λ r. ⌜ Spots (now (s .entry)) at r ⌝ }
 {
@@ -127,6 +128,7 @@ fn spot_at(s: &[u8], at: usize) -> Spot
     }
 }
 
+// The request of a record all of whose bytes are there.
 fn request_at(s: &[u8], at: usize, kind: Kind) -> Request
     requires { ⌜ at + row kind .bytes ≤ length (now s) ⌝ }
     ensures { λ r. ⌜ Asks (now (s .entry)) at kind r ⌝ }

@@ -1,24 +1,24 @@
 -- Demand 3: nothing leaves untold.
 -- Assumes nothing.
-use Prim.Native.Nat.{ℕ, zero, suc, _+_, _≤_, _<_}
+use Prim.Native.Nat.{ℕ, suc, _+_, _≤_}
 use native.Mathlib.Omega.{arith}
 use mathlib.Core.Path.{_≡_, refl, ap, _∙_, sym}
-use mathlib.Core.Logic.{_⊎_, inl, inr}
+use mathlib.Core.Logic.{inl, inr}
 use mathlib.Core.Bool.{Bool, true, false, cond, _&&_}
 use mathlib.Core.List.{List, [], _∷_, _++_, append-assoc, append-nil}
 use lib.Dec.{eqb}
 use borrow.Author.Tests.{eqb-true, eq-eqb}
-use Rattle.rules.specs.Parts.{bit, total, Pop, empty, popped, popTail}
-use Rattle.rules.specs.State.{Entry, Limits, State, Queue, Small, Main, words, keyIs, fresh, raise, revalue, cool, queueOf, setQueue, setGhosts, pushTo, emptyAt, overAll, residents, one, warmth, keyed, places, putAt, Place, nowhere, here, place, Fine, Sound}
-use Rattle.rules.specs.Records.{Request, GT, PK, RM, IN, EV, CL, Reply, MI, NW, EX, Narrow, AllNarrow, Outcome, says, tellFirst}
+use Rattle.rules.specs.Parts.{bit, total, popTail}
+use Rattle.rules.specs.State.{Entry, Limits, State, Queue, Small, Main, keyIs, fresh, raise, revalue, cool, queueOf, setGhosts, emptyAt, residents}
+use Rattle.rules.specs.State.{warmth, keyed, places, Place, nowhere, here, place, Fine, Sound}
+use Rattle.rules.specs.Records.{Request, GT, PK, RM, IN, EV, CL, Reply, NW, AllNarrow, Outcome, tellFirst}
 use Rattle.rules.specs.Ghosts.{Removed, removeGhost}
-use Rattle.rules.specs.Eviction.{tell, wanted, back, Evicted, evictIfFull, untouched, Walk}
-use Rattle.rules.specs.Requests.{run, apply, onGet, onPeek, onRemove, onInsert, onNew, onFirst, onSecond, onEvictOne, admits, arrive, hands, firstQueue}
-use Rattle.rules.specs.Ledger.{same, held, handedIn, handedOut, keyOf, clears, Answered, history, Ledger, blank, opens, booked, ledger, Balanced, served, histories}
-use Rattle.rules.proofs.PartsLaws.{total-append, TailView, pop-law}
+use Rattle.rules.specs.Eviction.{tell, Evicted, evictIfFull, Walk}
+use Rattle.rules.specs.Requests.{run, apply, onGet, onPeek, onRemove, onInsert, onNew, onFirst, onEvictOne, admits, arrive, firstQueue}
+use Rattle.rules.specs.Ledger.{same, held, handedIn, handedOut, clears, Answered, history, Ledger, blank, opens, booked, ledger, Balanced, served, histories}
+use Rattle.rules.proofs.PartsLaws.{total-append, pop-law}
 use Rattle.rules.proofs.StateLaws.{push-total, pop-total, put-total, back-total, Places, place-law}
-use Rattle.rules.proofs.EvictionLaws.{Evicts}
-use Rattle.rules.proofs.SoundLaws.{Roomy, roomy-law, walk-total, Unghosted, remove-law, apply-sound, run-sound, empty-sound}
+use Rattle.rules.proofs.SoundLaws.{Roomy, roomy-law, walk-total, Ends, first-ends, apply-sound, run-sound, empty-sound}
 
 module _ (k v : ℕ) where
   abbrev pair : Entry → ℕ
@@ -63,7 +63,8 @@ module _ (k v : ℕ) where
   arrive-ledger q a b σ w r =
       omega (arith, push-total pair q (fresh a b) (w .state), total-append (handedOut k v (IN a b)) (w .told) (NW (w .pops) ∷ []), roomy-ledger (IN a b) σ w r)
 
-  new-ledger : (a b : ℕ) (σ : State) (w : Removed) → Sound σ → held k v (onNew a b σ w .state) + out (IN a b) (onNew a b σ w .replies) ≡ same k v a b + held k v σ
+  new-ledger : (a b : ℕ) (σ : State) (w : Removed) → Sound σ
+      → held k v (onNew a b σ w .state) + out (IN a b) (onNew a b σ w .replies) ≡ same k v a b + held k v σ
   unfolding onNew
   new-ledger a b σ w s = let τ = setGhosts (w .ghosts) σ in arrive-ledger (admits (w .was)) a b τ (evictIfFull τ) (roomy-law τ (s .fine))
 
@@ -79,39 +80,22 @@ module _ (k v : ℕ) where
         ap (λ z. same k v z b) (eqb-true a (e .key) (h .1)),
       )
 
-  second-ledger : (σ : State) (p : Pop Entry) → TailView (σ .main) p → held k v (onSecond σ p .state) + out EV (onSecond σ p .replies) ≡ held k v σ
-  unfolding onSecond
-  second-ledger σ empty h = omega arith
-  second-ledger σ (popped r e) h = pick (wanted e)
-    where
-      pick : (t : Bool)
-          → held k v (cond t (says (back Main r e σ) MI) (hands Main r e σ) .state)
-          + out EV (cond t (says (back Main r e σ) MI) (hands Main r e σ) .replies) ≡ held k v σ
-      pick true = omega (arith, back-total pair Main r e σ h)
-      pick false = omega (arith, pop-total pair Main r e σ h)
-
-  first-ledger : (q : Queue) (σ : State) (p : Pop Entry) → TailView (queueOf q σ) p → held k v (onFirst q σ p .state) + out EV (onFirst q σ p .replies) ≡ held k v σ
-  unfolding onFirst
-  first-ledger q σ empty h = omega arith
-  first-ledger q σ (popped r e) h = pick (wanted e)
-    where
-      σ′ : State
-      σ′ = back q r e σ
-
-      both : Bool → Outcome
-      both t = cond t (onSecond σ′ (popTail (σ′ .main))) (hands q r e σ)
-
-      pick : (t : Bool) → held k v (both t .state) + out EV (both t .replies) ≡ held k v σ
-      pick true = omega (arith, back-total pair q r e σ h, cool-pair q e, second-ledger σ′ (popTail (σ′ .main)) (pop-law (σ′ .main)))
-      pick false = omega (arith, pop-total pair q r e σ h)
+  ledger-ends : Ends (λ σ o. held k v (o .state) + out EV (o .replies) ≡ held k v σ)
+  ledger-ends =
+      record {
+        none = λ σ. omega arith;
+        handed = λ q r e σ h. omega (arith, pop-total pair q r e σ h);
+        sent = λ q r e σ h l. omega (arith, back-total pair q r e σ h, cool-pair q e);
+      }
 
   evict-one-ledger : (σ : State) (w : Evicted) → Roomy σ w → held k v (onEvictOne w .state) + out EV (onEvictOne w .replies) ≡ held k v σ
   unfolding onEvictOne
   evict-one-ledger σ w r =
       let τ = w .state in
       let q = firstQueue τ in
-      let o = onFirst q τ (popTail (queueOf q τ)) in
-      omega (arith, roomy-ledger EV σ w r, first-ledger q τ (popTail (queueOf q τ)) (pop-law (queueOf q τ)), total-append (handedOut k v EV) (w .told) (o .replies))
+      let p = popTail (queueOf q τ) in
+      let o = onFirst q τ p in
+      omega (arith, roomy-ledger EV σ w r, first-ends ledger-ends q τ p (pop-law (queueOf q τ)), total-append (handedOut k v EV) (w .told) (o .replies))
 
   -- one request
   pub apply-ledger : (σ : State) (r : Request) → Sound σ → clears r ≡ false
@@ -139,7 +123,8 @@ module _ (k v : ℕ) where
   book σ r l s b false e = record { untold = omega (arith, apply-ledger σ r s e, b .untold) }
 
   -- a run of requests keeps the ledger balanced, whatever stood in it before
-  pub run-ledger : (σ : State) (rs : List Request) (l : Ledger) → AllNarrow rs → Sound σ → Balanced k v l σ → Balanced k v (ledger k v (history σ rs) l) (run σ rs .state)
+  pub run-ledger : (σ : State) (rs : List Request) (l : Ledger) → AllNarrow rs → Sound σ → Balanced k v l σ
+      → Balanced k v (ledger k v (history σ rs) l) (run σ rs .state)
   unfolding run history ledger
   run-ledger σ [] l z s b = b
   run-ledger σ (r ∷ rs) l z s b =
@@ -210,9 +195,12 @@ arrive-full q k v g σ w full absent (inr h) =
 
 new-full : (k v : ℕ) (σ : State) (w : Removed) → Sound σ → σ .limits .capacity ≤ residents σ → keyed k σ ≡ 0 → FullInsert k v σ (onNew k v σ w)
 unfolding onNew
-new-full k v σ w s full absent = let τ = setGhosts (w .ghosts) σ in arrive-full (admits (w .was)) k v (w .ghosts) σ (evictIfFull τ) full absent (roomy-law τ (s .fine))
+new-full k v σ w s full absent =
+    let τ = setGhosts (w .ghosts) σ in
+    arrive-full (admits (w .was)) k v (w .ghosts) σ (evictIfFull τ) full absent (roomy-law τ (s .fine))
 
-insert-full : (k v : ℕ) (σ : State) (p : Place) → Places k σ p → keyed k σ ≡ 0 → Sound σ → σ .limits .capacity ≤ residents σ → FullInsert k v σ (onInsert k v σ p)
+insert-full : (k v : ℕ) (σ : State) (p : Place) → Places k σ p → keyed k σ ≡ 0 → Sound σ → σ .limits .capacity ≤ residents σ
+    → FullInsert k v σ (onInsert k v σ p)
 unfolding onInsert
 insert-full k v σ nowhere h absent s full = new-full k v σ (removeGhost k (σ .ghosts)) s full absent
 insert-full k v σ (here q b e a) h absent s full =
@@ -221,16 +209,6 @@ insert-full k v σ (here q b e a) h absent s full =
 pub full-insert : (k v : ℕ) (σ : State) → Sound σ → keyed k σ ≡ 0 → residents σ ≡ σ .limits .capacity → FullInsert k v σ (apply σ (IN k v))
 unfolding apply
 full-insert k v σ s absent full = insert-full k v σ (place k σ) (place-law k σ) absent s (omega arith)
-
--- ---- a new key where there is room: nothing leaves, and no pop is told
-
-calm : (τ : State) (w : Evicted) → residents τ < τ .limits .capacity → Roomy τ w → w .told ++ (NW (w .pops) ∷ []) ≡ NW 0 ∷ []
-calm τ w less (inl h) = rw (h .1)
-calm τ w less (inr h) = absurd (omega (arith, h .0))
-
-pub room-insert : (k v : ℕ) (σ : State) (w : Removed) → Sound σ → residents σ < σ .limits .capacity → onNew k v σ w .replies ≡ NW 0 ∷ []
-unfolding onNew
-room-insert k v σ w s less = let τ = setGhosts (w .ghosts) σ in calm τ (evictIfFull τ) less (roomy-law τ (s .fine))
 
 -- ---- demand 3, put together
 

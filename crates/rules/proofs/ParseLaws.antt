@@ -2,9 +2,9 @@
 -- Assumes nothing.
 use Prim.Native.Nat.{ℕ, zero, suc, _+_, _-_, _≤_, _<_}
 use native.Mathlib.Omega.{arith}
-use native.Mathlib.Nat.{add-assoc, add-zero}
+use native.Mathlib.Nat.{add-assoc}
 use borrow.Author.Tests.{le-leb, lt-leb, leb-true, leb-false, ltb-false}
-use mathlib.Core.Path.{_≡_, refl, sym, ap, _∙_}
+use mathlib.Core.Path.{_≡_, refl, ap}
 use mathlib.Core.Bool.{Bool, true, false, cond}
 use mathlib.Core.List.{List, [], _∷_}
 use mathlib.Core.Option.{Option, none, some}
@@ -17,71 +17,99 @@ use Rattle.rules.specs.declared.Kind.{Kind}
 use Rattle.rules.specs.declared.Kind.the-variants.{Get, Peek, Remove, Insert, Evict, Clear}
 use Rattle.rules.specs.declared.Row.{Row}
 use Rattle.rules.specs.Records.{Request, Narrow, AllNarrow}
-use Rattle.rules.specs.Bytes.{row, table, find, Spot, at, unknown, cut, over, within, spotAt, made, Reading, ask, strange, short, end, reading, readAt, End, whole, Parsed, ends, with, onReading, walk, parseFrom, parse}
+use Rattle.rules.specs.Bytes.{row, table, find, Spot, at, unknown, cut, over, within, spotAt, made, Reading, ask, strange, short, end, reading, readAt}
+use Rattle.rules.specs.Bytes.{with, onReading, walk, parseFrom, parse}
 use Rattle.rules.proofs.TableLaws.{find-known, row-bytes}
 
--- ---- the tests that a known record has passed
+-- ---- what a spot says of the bytes: all those of a known record are there, and where nothing more is read there are none left
 
-inner : (t : Bool) (j k : Kind) → cond t cut (at j) ≡ at k → (t ≡ false) × (j ≡ k)
-inner true j k h = let z : _≡_ {A = ℕ} 0 1 = cc in absurd (omega arith)
-inner false j k h = (refl, cc)
+abbrev pub Lies : List ℕ → ℕ → Spot → Type 0
+Lies s i (at k) = i + row k .bytes ≤ length s
+Lies s i unknown = Unit {0}
+Lies s i cut = Unit {0}
+Lies s i over = length s ≤ i
 
-picked : (a b : Bool) (left : ℕ) (f : Option Row) (k : Kind) → cond a over (cond b cut (within left f)) ≡ at k
-    → (b ≡ false) × ((r : Row) × (f ≡ some r) × (ltb left (r .bytes) ≡ false) × (r .kind ≡ k))
-picked true b left f k h = let z : _≡_ {A = ℕ} 0 1 = cc in absurd (omega arith)
-picked false true left f k h = let z : _≡_ {A = ℕ} 0 1 = cc in absurd (omega arith)
-picked false false left none k h = let z : _≡_ {A = ℕ} 0 1 = cc in absurd (omega arith)
-picked false false left (some r) k h = let i = inner (ltb left (r .bytes)) (r .kind) k h in (refl, (r, refl, i .0, i .1))
+module _ (s : List ℕ) (i : ℕ) where
+  lies-row : (r : Row) → find (getD s i 0) (getD s (i + 1) 0) table ≡ some r → (t : Bool) → ltb (length s - i) (r .bytes) ≡ t → 2 ≤ length s - i
+      → Lies s i (cond t cut (at (r .kind)))
+  lies-row r f true e h = tt
+  lies-row r f false e h =
+      omega (arith, ltb-false (length s - i) (r .bytes) e, ap (λ x. x .bytes) (find-known (getD s i 0) (getD s (i + 1) 0) r f))
 
--- all its bytes are there
-pub known : (s : List ℕ) (i : ℕ) (k : Kind) → spotAt s i ≡ at k → i + row k .bytes ≤ length s
-unfolding spotAt
-known s i k h =
-    let f = find (getD s i 0) (getD s (i + 1) 0) table in
-    let p = picked (leb (length s) i) (ltb (length s - i) 2) (length s - i) f k h in
-    let r : Row = p .1 .0 in
-    let e : r ≡ row (r .kind) = find-known (getD s i 0) (getD s (i + 1) 0) r (p .1 .1) in
-    omega (arith, ltb-false (length s - i) 2 (p .0), ltb-false (length s - i) (r .bytes) (p .1 .2), ap (λ x. x .bytes) e, ap (λ j. row j .bytes) (p .1 .3))
+  lies : (a b : Bool) (f : Option Row) → leb (length s) i ≡ a → ltb (length s - i) 2 ≡ b → find (getD s i 0) (getD s (i + 1) 0) table ≡ f
+      → Lies s i (cond a over (cond b cut (within (length s - i) f)))
+  lies true b f o c e = leb-true (length s) i o
+  lies false true f o c e = tt
+  lies false false none o c e = tt
+  lies false false (some r) o c e = lies-row r e (ltb (length s - i) (r .bytes)) refl (ltb-false (length s - i) 2 c)
 
-goes : (s : List ℕ) (i : ℕ) (p : Spot) → spotAt s i ≡ p → (q : Request) (after : ℕ) → reading s i p ≡ ask q after → (i < after) × (after ≤ length s)
-goes s i (at k) e q after r =
-    let h : i + row k .bytes ≡ after = cc in
-    omega (arith, known s i k e, row-bytes k)
-goes s i unknown e q after r = let z : _≡_ {A = ℕ} 0 1 = cc in absurd (omega arith)
-goes s i cut e q after r = let z : _≡_ {A = ℕ} 0 1 = cc in absurd (omega arith)
-goes s i over e q after r = let z : _≡_ {A = ℕ} 0 1 = cc in absurd (omega arith)
+  pub spot-lies : Lies s i (spotAt s i)
+  unfolding spotAt
+  spot-lies = lies (leb (length s) i) (ltb (length s - i) 2) (find (getD s i 0) (getD s (i + 1) 0) table) refl refl refl
+
+  goes : (p : Spot) → Lies s i p → (q : Request) (after : ℕ) → reading s i p ≡ ask q after → (i < after) × (after ≤ length s)
+  goes (at k) l q after r = let h : i + row k .bytes ≡ after = cc in omega (arith, row-bytes k)
+  goes unknown l q after r = let z : _≡_ {A = ℕ} 0 1 = cc in absurd (omega arith)
+  goes cut l q after r = let z : _≡_ {A = ℕ} 0 1 = cc in absurd (omega arith)
+  goes over l q after r = let z : _≡_ {A = ℕ} 0 1 = cc in absurd (omega arith)
 
 -- a request that was read lies within the bytes, and the next offset is further
 pub read-goes : (s : List ℕ) (i : ℕ) (q : Request) (after : ℕ) → readAt s i ≡ ask q after → (i < after) × (after ≤ length s)
 unfolding readAt
-read-goes s i q after e = goes s i (spotAt s i) refl q after e
+read-goes s i q after e = goes s i (spotAt s i) (spot-lies s i) q after e
 
 pub read-end : (s : List ℕ) (i : ℕ) → length s ≤ i → readAt s i ≡ end
 unfolding readAt spotAt
 read-end s i h = rw (le-leb (length s) i h)
 
--- ---- one record more is one turn more
+-- ---- one record more is one turn more, for any reader of one record that goes forward
 
-module _ (s : List ℕ) where
-  enough-step : (n m i : ℕ) → ((after : ℕ) → i < after → walk (readAt s) n after ≡ walk (readAt s) m after)
-      → (r : Reading Request) → readAt s i ≡ r → onReading (walk (readAt s) n) i r ≡ onReading (walk (readAt s) m) i r
-  enough-step n m i ih (ask q after) e = ap (with q) (ih after (read-goes s i q after e .0))
+-- what it reads ends further on, within n bytes; and behind these there is nothing more
+pub record Forward {A : Type 0} (read : ℕ → Reading A) (n : ℕ) : Type 0 where
+  pub goes : (i : ℕ) (q : A) (after : ℕ) → read i ≡ ask q after → (i < after) × (after ≤ n)
+  pub stops : (i : ℕ) → n ≤ i → read i ≡ end
+
+module _ {A : Type 0} {read : ℕ → Reading A} {size : ℕ} (f : Forward read size) where
+  enough-step : (n m i : ℕ) → ((after : ℕ) → i < after → walk read n after ≡ walk read m after)
+      → (r : Reading A) → read i ≡ r → onReading (walk read n) i r ≡ onReading (walk read m) i r
+  enough-step n m i ih (ask q after) e = ap (with q) (ih after (f .goes i q after e .0))
   enough-step n m i ih strange e = refl
   enough-step n m i ih short e = refl
   enough-step n m i ih end e = refl
 
   -- where there are as many turns as bytes left, more change nothing
-  enough : (n m i : ℕ) → length s ≤ i + n → length s ≤ i + m → walk (readAt s) n i ≡ walk (readAt s) m i
+  enough : (n m i : ℕ) → size ≤ i + n → size ≤ i + m → walk read n i ≡ walk read m i
   unfolding walk
   enough zero zero i h g = refl
-  enough zero (suc m) i h g = rw (read-end s i (omega arith))
-  enough (suc n) zero i h g = rw (read-end s i (omega arith))
-  enough (suc n) (suc m) i h g =
-      enough-step n m i (λ after l. enough n m after (omega arith) (omega arith)) (readAt s i) refl
+  enough zero (suc m) i h g = rw (f .stops i (omega arith))
+  enough (suc n) zero i h g = rw (f .stops i (omega arith))
+  enough (suc n) (suc m) i h g = enough-step n m i (λ after l. enough n m after (omega arith) (omega arith)) (read i) refl
 
-  pub parse-step : (i : ℕ) → parseFrom s i ≡ onReading (parseFrom s) i (readAt s i)
-  unfolding parseFrom walk
-  parse-step i = enough (length s) (suc (length s)) i (omega arith) (omega arith)
+  pub walk-step : (i : ℕ) → walk read size i ≡ onReading (walk read size) i (read i)
+  unfolding walk
+  walk-step i = enough size (suc size) i (omega arith) (omega arith)
+
+-- what holds of each record that is read holds of all of them: All is P of each of a list
+module _ {A : Type 0} {read : ℕ → Reading A} (P : A → Type 0) (All : List A → Type 0) (none : All [])
+    (one-more : (q : A) (l : List A) → P q → All l → All (q ∷ l)) (each : (i : ℕ) (q : A) (after : ℕ) → read i ≡ ask q after → P q) where
+  all-step : (n i : ℕ) → ((after : ℕ) → All (walk read n after .requests)) → (r : Reading A) → read i ≡ r
+      → All (onReading (walk read n) i r .requests)
+  all-step n i ih (ask q after) e = one-more q (walk read n after .requests) (each i q after e) (ih after)
+  all-step n i ih strange e = none
+  all-step n i ih short e = none
+  all-step n i ih end e = none
+
+  pub walk-all : (n i : ℕ) → All (walk read n i .requests)
+  unfolding walk
+  walk-all zero i = none
+  walk-all (suc n) i = all-step n i (walk-all n) (read i) refl
+
+pub read-forward : (s : List ℕ) → Forward (readAt s) (length s)
+read-forward s = record { goes = read-goes s; stops = read-end s }
+
+pub parse-step : (s : List ℕ) (i : ℕ) → parseFrom s i ≡ onReading (parseFrom s) i (readAt s i)
+unfolding parseFrom
+parse-step s i = walk-step (read-forward s) i
 
 -- ---- bytes give numbers of 64 bits
 
@@ -93,36 +121,19 @@ made-sized s i Insert h = (le-lt 8 s (i + 2) h, le-lt 8 s (i + 10) h)
 made-sized s i Evict h = tt
 made-sized s i Clear h = tt
 
-abbrev sizes : Reading Request → Type 0
-sizes (ask q after) = Narrow q
-sizes strange = Unit {0}
-sizes short = Unit {0}
-sizes end = Unit {0}
+reading-sized : (s : List ℕ) (i : ℕ) (p : Spot) → Bytes s → (q : Request) (after : ℕ) → reading s i p ≡ ask q after → Narrow q
+reading-sized s i (at k) h q after e = let m : made s i k ≡ q = cc in rw m at (made-sized s i k h)
+reading-sized s i unknown h q after e = let z : _≡_ {A = ℕ} 0 1 = cc in absurd (omega arith)
+reading-sized s i cut h q after e = let z : _≡_ {A = ℕ} 0 1 = cc in absurd (omega arith)
+reading-sized s i over h q after e = let z : _≡_ {A = ℕ} 0 1 = cc in absurd (omega arith)
 
-reading-sized : (s : List ℕ) (i : ℕ) (p : Spot) → Bytes s → sizes (reading s i p)
-reading-sized s i (at k) h = made-sized s i k h
-reading-sized s i unknown h = tt
-reading-sized s i cut h = tt
-reading-sized s i over h = tt
-
-read-sized : (s : List ℕ) (i : ℕ) → Bytes s → sizes (readAt s i)
+read-sized : (s : List ℕ) → Bytes s → (i : ℕ) (q : Request) (after : ℕ) → readAt s i ≡ ask q after → Narrow q
 unfolding readAt
-read-sized s i h = reading-sized s i (spotAt s i) h
-
-turn-sized : (more : ℕ → Parsed Request) (i : ℕ) (r : Reading Request) → sizes r → ((after : ℕ) → AllNarrow (more after .requests)) → AllNarrow (onReading more i r .requests)
-turn-sized more i (ask q after) z ih = (z, ih after)
-turn-sized more i strange z ih = tt
-turn-sized more i short z ih = tt
-turn-sized more i end z ih = tt
-
-walk-sized : (s : List ℕ) (n i : ℕ) → Bytes s → AllNarrow (walk (readAt s) n i .requests)
-unfolding walk
-walk-sized s zero i h = tt
-walk-sized s (suc n) i h = turn-sized (walk (readAt s) n) i (readAt s i) (read-sized s i h) (λ after. walk-sized s n after h)
+read-sized s h i q after e = reading-sized s i (spotAt s i) h q after e
 
 pub parse-sized-from : (s : List ℕ) (i : ℕ) → Bytes s → AllNarrow (parseFrom s i .requests)
 unfolding parseFrom
-parse-sized-from s i h = walk-sized s (length s) i h
+parse-sized-from s i h = walk-all Narrow AllNarrow tt (λ q l n m. (n, m)) (read-sized s h) (length s) i
 
 pub parse-sized : (s : List ℕ) → Bytes s → AllNarrow (parse s .requests)
 unfolding parse

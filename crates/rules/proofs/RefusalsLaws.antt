@@ -5,7 +5,8 @@ use mathlib.Core.Path.{_≡_, refl, sym, ap₂, _∙_}
 use mathlib.Core.Bool.{cond}
 use lib.Dec.{eqb}
 use Rattle.rules.specs.declared.Turned.{Turned}
-use Rattle.rules.specs.declared.Turned.the-variants.{NoCapacity, CapacityAbove, SmallRatio, GhostRatio, GhostLimit, ShortStore, DamagedStore, LongRequests, BadRecord, NoRoom}
+use Rattle.rules.specs.declared.Turned.the-variants.{NoCapacity, CapacityAbove, SmallRatio, GhostRatio, GhostLimit, ShortStore, DamagedStore}
+use Rattle.rules.specs.declared.Turned.the-variants.{LongRequests, BadRecord, NoRoom}
 use Rattle.rules.specs.Refusals.{numberOf, detailOf}
 
 -- the refusal that a number and a detail stand for

@@ -1,23 +1,21 @@
 -- The replies to a request take no more bytes than the table's reply room.
 -- Assumes nothing.
-use Prim.Native.Nat.{ℕ, zero, suc, _+_, _/_, _≤_}
+use Prim.Native.Nat.{ℕ, suc, _≤_}
 use native.Mathlib.Omega.{arith}
 use mathlib.Core.Path.{_≡_, refl, ap, sym, _∙_}
-use mathlib.Core.Logic.{_⊎_, inl, inr}
-use mathlib.Core.Bool.{Bool, true, false, cond}
+use mathlib.Core.Logic.{inl, inr}
 use mathlib.Core.List.{List, [], _∷_, _++_, append-assoc}
 use lib.ListN.{length, length-append}
-use lib.Dec.{eqb, ltb}
 use Rattle.rules.specs.declared.Kind.the-variants.{Get, Peek, Remove, Insert, Evict}
-use Rattle.rules.specs.Parts.{total, Pop, empty, popped, popTail}
+use Rattle.rules.specs.Parts.{total, popTail}
 use Rattle.rules.specs.State.{Entry, State, Queue, Small, Main, queueOf, setGhosts, Place, nowhere, here, place, Sound}
-use Rattle.rules.specs.Records.{Request, GT, PK, RM, IN, EV, CL, Reply, MI, OK, HI, RE, NW, GO, EX, ES, EM, AllNarrow, Outcome, says}
+use Rattle.rules.specs.Records.{Request, GT, PK, RM, IN, EV, CL, Reply, MI, OK, HI, RE, NW, GO, EX, ES, EM, AllNarrow}
 use Rattle.rules.specs.Ghosts.{Removed, removeGhost}
-use Rattle.rules.specs.Eviction.{tell, wanted, back, Evicted, evictIfFull}
-use Rattle.rules.specs.Requests.{run, apply, onGet, onPeek, onRemove, onInsert, onNew, onFirst, onSecond, onEvictOne, admits, arrive, hands, firstQueue}
-use Rattle.rules.specs.Bytes.{bytesOf, encode, encodeAll, row, kindOf, roomOf, roomFor}
-use Rattle.rules.proofs.PartsLaws.{total-append}
-use Rattle.rules.proofs.SoundLaws.{Roomy, roomy-law, apply-sound}
+use Rattle.rules.specs.Eviction.{tell, Evicted, evictIfFull}
+use Rattle.rules.specs.Requests.{run, apply, onGet, onPeek, onRemove, onInsert, onNew, onFirst, onEvictOne, admits, arrive, firstQueue}
+use Rattle.rules.specs.Bytes.{bytesOf, encode, encodeAll, row, roomOf, roomFor}
+use Rattle.rules.proofs.PartsLaws.{total-append, pop-law}
+use Rattle.rules.proofs.SoundLaws.{Roomy, roomy-law, Ends, first-ends, apply-sound}
 use Rattle.rules.proofs.TripLaws.{bytes-length}
 
 -- ---- the bytes of a reply
@@ -70,7 +68,9 @@ roomy-size σ w (inr h) = rw (h .1 .told-is) (pair (h .1 .queue) (h .1 .entry))
     pair Small e = omega arith
     pair Main e = omega arith
 
-place-size : (σ : State) (p : Place) → (total size (onGet σ p .replies) ≤ row Get .room) × (total size (onPeek σ p .replies) ≤ row Peek .room) × (total size (onRemove σ p .replies) ≤ row Remove .room)
+place-size : (σ : State) (p : Place)
+    → (total size (onGet σ p .replies) ≤ row Get .room) × (total size (onPeek σ p .replies) ≤ row Peek .room)
+    × (total size (onRemove σ p .replies) ≤ row Remove .room)
 unfolding onGet onPeek onRemove
 place-size σ nowhere = omega arith
 place-size σ (here q b e a) = omega arith
@@ -87,26 +87,8 @@ unfolding onInsert
 insert-size k v σ nowhere s = new-size k v σ (removeGhost k (σ .ghosts)) s
 insert-size k v σ (here q b e a) s = omega arith
 
-second-size : (σ : State) (p : Pop Entry) → total size (onSecond σ p .replies) ≤ 18
-unfolding onSecond
-second-size σ empty = omega arith
-second-size σ (popped r e) = pick (wanted e)
-  where
-    pick : (t : Bool) → total size (cond t (says (back Main r e σ) MI) (hands Main r e σ) .replies) ≤ 18
-    pick true = omega arith
-    pick false = omega arith
-
-first-size : (q : Queue) (σ : State) (p : Pop Entry) → total size (onFirst q σ p .replies) ≤ 18
-unfolding onFirst
-first-size q σ empty = omega arith
-first-size q σ (popped r e) = pick (wanted e)
-  where
-    τ : State
-    τ = back q r e σ
-
-    pick : (t : Bool) → total size (cond t (onSecond τ (popTail (τ .main))) (hands q r e σ) .replies) ≤ 18
-    pick true = second-size τ (popTail (τ .main))
-    pick false = omega arith
+size-ends : Ends (λ σ o. total size (o .replies) ≤ 18)
+size-ends = record { none = λ σ. omega arith; handed = λ q r e σ h. omega arith; sent = λ q r e σ h l. l }
 
 evict-one-size : (σ : State) (w : Evicted) → Roomy σ w → total size (onEvictOne w .replies) ≤ row Evict .room
 unfolding onEvictOne
@@ -114,7 +96,7 @@ evict-one-size σ w r =
     let τ = w .state in
     let q = firstQueue τ in
     let p = popTail (queueOf q τ) in
-    omega (arith, total-append size (w .told) (onFirst q τ p .replies), roomy-size σ w r, first-size q τ p)
+    omega (arith, total-append size (w .told) (onFirst q τ p .replies), roomy-size σ w r, first-ends size-ends q τ p (pop-law (queueOf q τ)))
 
 pub apply-size : (σ : State) (r : Request) → Sound σ → total size (apply σ r .replies) ≤ roomOf r
 unfolding apply

@@ -35,10 +35,6 @@ pub find-over : (a b : ℕ) (l : List Row) (i : ℕ) → length l ≤ i → find
 unfolding find
 find-over a b l i h = rw (drop-of-length-le l h)
 
-pub rows : length table ≡ 6
-unfolding table
-rows = refl
-
 -- ---- what a row says
 
 pub row-kind : (k : Kind) → row k .kind ≡ k

@@ -3,11 +3,11 @@
 -- Assumes nothing.
 use mathlib.Core.Path.{_≡_, refl}
 use mathlib.Core.Bool.{false}
-use mathlib.Core.List.{List, [], _∷_, _++_, map}
+use mathlib.Core.List.{List, [], _∷_, map}
 use Prim.Native.Nat.{ℕ, _^_}
 use lib.Ieee.{Float, binary64, round, mul, ofInt}
-use Rattle.rules.specs.State.{Entry, Limits, State}
-use Rattle.rules.specs.Records.{Request, GT, IN, EV, MI, HI, NW, EX, ES, EM}
+use Rattle.rules.specs.State.{Entry, State}
+use Rattle.rules.specs.Records.{GT, IN, EV, MI, HI, NW, EX, ES, EM}
 use Rattle.rules.specs.Bytes.{allWritten, encodeAll}
 use Rattle.rules.specs.Sizing.{Sized, limits, refused as misfit, sizing, sizingUpTo}
 use Rattle.rules.specs.Verdict.{Reads, damaged, reads, Verdict, refused, done, storeBytes, create, call}

@@ -1,20 +1,19 @@
 -- What was written as requests is read as the same requests.
 -- Assumes nothing.
-use Prim.Native.Nat.{ℕ, zero, suc, _+_, _-_, _*_, _/_, _%_, _^_, _≤_, _<_}
+use Prim.Native.Nat.{ℕ, zero, suc, _+_, _-_, _/_, _%_, _^_, _≤_, _<_}
 use native.Mathlib.Omega.{arith}
 use native.Mathlib.Nat.{add-zero, pow-suc, div-lt-iff-lt-mul}
 use borrow.Author.Tests.{lt-leb, le-ltb}
 use mathlib.Core.Path.{_≡_, refl, sym, ap, ap₂, _∙_}
 use mathlib.Core.List.{List, [], _∷_, _++_, append-assoc, append-nil}
-use lib.ListN.{length, getD, drop, length-append}
+use lib.ListN.{length, drop, length-append}
 use lib.Seq.{drop-append-seam}
 use Rattle.cells.specs.Cells.{le}
-use lib.Dec.{leb, ltb}
 use mathlib.Core.Option.{some}
 use Rattle.rules.specs.declared.Row.{Row}
 use Rattle.rules.specs.Records.{Request, GT, PK, RM, IN, EV, CL, Narrow, AllNarrow}
-use Rattle.rules.specs.Bytes.{bytesOf, row, kindOf, table, find, at, spotAt, made, ask, reading, readAt, whole, Parsed, with, onReading, parseFrom, parse, written, allWritten}
-use Rattle.rules.proofs.TableLaws.{row-kind}
+use Rattle.rules.specs.Bytes.{bytesOf, row, kindOf, table, find, at, spotAt, made, ask, reading, readAt, whole, Parsed, with, onReading, parseFrom, parse}
+use Rattle.rules.specs.Bytes.{written, allWritten}
 use Rattle.rules.proofs.ParseLaws.{parse-step, read-end, le-drop, spot-drop, made-drop}
 
 pub bytes-length : (w v : ℕ) → length (bytesOf w v) ≡ w

@@ -78,10 +78,6 @@ unfolding finish step
 steps zero σ = untouched σ
 steps (suc n) σ = finish (steps n) σ (step σ)
 
--- there is a resident, so steps end with a pair that leaves
-abbrev pub Evictable : State → Bool
-Evictable σ = ltb 0 (residents σ)
-
 -- each step that moves an entry lowers F, so F + 1 steps are enough (`evict-law`)
 unfoldable pub evict : State → Evicted
 unfolding steps

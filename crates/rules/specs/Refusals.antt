@@ -2,7 +2,8 @@
 -- Assumes nothing.
 use Prim.Native.Nat.{ℕ}
 use Rattle.rules.specs.declared.Turned.{Turned}
-use Rattle.rules.specs.declared.Turned.the-variants.{NoCapacity, CapacityAbove, SmallRatio, GhostRatio, GhostLimit, ShortStore, DamagedStore, LongRequests, BadRecord, NoRoom}
+use Rattle.rules.specs.declared.Turned.the-variants.{NoCapacity, CapacityAbove, SmallRatio, GhostRatio, GhostLimit, ShortStore, DamagedStore}
+use Rattle.rules.specs.declared.Turned.the-variants.{LongRequests, BadRecord, NoRoom}
 
 abbrev pub numberOf : Turned → ℕ
 numberOf NoCapacity = 1

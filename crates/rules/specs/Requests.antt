@@ -3,10 +3,10 @@
 use Prim.Native.Nat.{ℕ}
 use mathlib.Core.Bool.{Bool, true, false, cond}
 use mathlib.Core.List.{List, [], _∷_, _++_}
-use lib.Dec.{eqb}
 use Rattle.rules.specs.Parts.{Pop, empty, popped, popTail, null}
-use Rattle.rules.specs.State.{Entry, State, Queue, Small, Main, fresh, raise, revalue, queueOf, setQueue, setGhosts, pushTo, emptyAt, Place, nowhere, here, place, putAt}
-use Rattle.rules.specs.Records.{Request, GT, PK, RM, IN, EV, CL, Reply, MI, OK, HI, RE, NW, GO, EX, Outcome, says, tellFirst}
+use Rattle.rules.specs.State.{Entry, State, Queue, Small, Main, fresh, raise, revalue, queueOf, setQueue, setGhosts, pushTo, emptyAt, Place, nowhere}
+use Rattle.rules.specs.State.{here, place, putAt}
+use Rattle.rules.specs.Records.{Request, GT, PK, RM, IN, EV, CL, MI, OK, HI, RE, NW, GO, EX, Outcome, says, tellFirst}
 use Rattle.rules.specs.Ghosts.{Removed, removeGhost}
 use Rattle.rules.specs.Eviction.{wanted, back, Evicted, evictIfFull}
 

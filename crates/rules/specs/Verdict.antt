@@ -6,7 +6,7 @@ use mathlib.Core.List.{List, [], _∷_}
 use lib.Dec.{ltb}
 use lib.ListN.{length}
 use lib.Ieee.{Float}
-use Rattle.rules.specs.State.{Limits, State, emptyAt}
+use Rattle.rules.specs.State.{State, emptyAt}
 use Rattle.rules.specs.Records.{Request, Outcome}
 use Rattle.rules.specs.Requests.{run}
 use Rattle.rules.specs.Sizing.{Sized, limits, refused as misfit, sizing, sizingUpTo}

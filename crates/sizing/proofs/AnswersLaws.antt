@@ -5,9 +5,7 @@ use Rattle.rules.specs.Sizing as rules
 use Rattle.rules.proofs.RefusalsLaws.{turnedBy, turned-back}
 use Rattle.sizing.specs.declared.Sized.{Sized}
 use Rattle.sizing.specs.declared.Sized.the-variants.{Accepted, Refused}
-use Rattle.sizing.specs.declared.Read.{Read}
-use Rattle.sizing.specs.declared.Read.the-variants.{Asked, Bad}
-use Rattle.sizing.specs.Answers.{sizedOf, askedOf}
+use Rattle.sizing.specs.Answers.{sizedOf}
 
 -- the answer that stands for a thing of the rules
 abbrev backSized : rules.Sized → Sized
@@ -20,14 +18,3 @@ back-sized (Refused t) = ap Refused (turned-back t)
 
 pub answer-one : (a b : Sized) → sizedOf a ≡ sizedOf b → a ≡ b
 answer-one a b h = sym (back-sized a) ∙ ap backSized h ∙ back-sized b
-
-abbrev backRead : rules.Asked → Read
-backRead (rules.asks c s g) = Asked (record { capacity = c; «small_ratio» = s; «ghost_ratio» = g })
-backRead rules.noSettings = Bad
-
-back-read : (a : Read) → backRead (askedOf a) ≡ a
-back-read (Asked s) = refl
-back-read Bad = refl
-
-pub read-one : (a b : Read) → askedOf a ≡ askedOf b → a ≡ b
-read-one a b h = sym (back-read a) ∙ ap backRead h ∙ back-read b

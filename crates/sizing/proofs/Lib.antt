@@ -9,4 +9,3 @@ pub mod RecordLaws
 pub mod NearestLaws
 pub mod AcceptedLaws
 pub mod AnswersLaws
-pub mod CreatedLaws

@@ -75,7 +75,8 @@ module _ {top c : ℕ} {s g : Float} (p : RatiosFit top c s g) where
   pub is-5 : top < cut (product c g) → refused 5 0 ≡ sizingUpTo top c s g
   is-5 l = sym (left ∙ simp (tested ∙ lt-ltb top (cut (product c g)) l))
 
-  pub accepted : cut (product c g) ≤ top → limits (record { capacity = c; smallLimit = cut (product c s); ghostLimit = cut (product c g) }) ≡ sizingUpTo top c s g
+  pub accepted : cut (product c g) ≤ top
+      → limits (record { capacity = c; smallLimit = cut (product c s); ghostLimit = cut (product c g) }) ≡ sizingUpTo top c s g
   unfolding limitsFor
   accepted l =
       let b = not-beyond top (product c g) (tested ∙ le-ltb top (cut (product c g)) l) in

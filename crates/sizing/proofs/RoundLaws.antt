@@ -3,7 +3,8 @@
 -- Assumes nothing.
 use mathlib.Core.Path.{_≡_, sym, ap, _∙_}
 use Prim.Native.Nat.{ℕ, suc, _+_, _-_, _*_, _/_, _^_, _≤_, _<_}
-use native.Mathlib.Nat.{le-of-suc-le-suc, mul-comm, mul-assoc, mul-pos, mul-le-mul, div-eq-of-lt, div-eq-of-lt-le, div-mul-le-self, le-div-iff-mul-le, div-lt-iff-lt-mul, add-div-right, div-div-eq-div-mul}
+use native.Mathlib.Nat.{le-of-suc-le-suc, mul-comm, mul-assoc, mul-pos, mul-le-mul, div-eq-of-lt, div-eq-of-lt-le, div-mul-le-self, le-div-iff-mul-le}
+use native.Mathlib.Nat.{div-lt-iff-lt-mul, add-div-right, div-div-eq-div-mul}
 use native.Mathlib.Omega.{arith}
 use lib.Pow.{pow-add, pow-pos, pow-mono, shl-lt}
 use lib.Ieee.Nearest.{div-same}

@@ -147,7 +147,7 @@ fn double_of(bits: u64) -> f64
 }
 
 // The settings that 24 bytes from `at` on hold.
-pub fn decode(s: &[u8], at: usize) -> Settings
+fn decode(s: &[u8], at: usize) -> Settings
     requires { ⌜ at + 24 ≤ length (now s) ⌝ }
     ensures { λ r. ⌜ asksOf r ≡ settingsAt (now (s .entry)) at ⌝ }
 {

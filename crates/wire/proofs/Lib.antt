@@ -1,4 +1,4 @@
-pub mod SpliceLaws
-pub mod PlaceLaws
+pub mod SpotLaws
 pub mod SurveyLaws
+pub mod SpliceLaws
 pub mod ProgressLaws

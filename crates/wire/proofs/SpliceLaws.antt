@@ -1,12 +1,12 @@
 -- The laws of a run of bytes written into a list.
 -- Assumes nothing.
-use Prim.Native.Nat.{ℕ, zero, suc, _+_, _-_, _/_, _%_, _≤_, _<_}
+use Prim.Native.Nat.{ℕ, zero, suc, _+_, _/_, _%_, _≤_}
 use native.Mathlib.Omega.{arith}
 use native.Mathlib.Numerals.{add-one}
-use native.Mathlib.Nat.{zero-add, add-zero, add-suc, suc-add, add-assoc}
+use native.Mathlib.Nat.{zero-add, add-zero, add-suc, suc-add}
 use mathlib.Core.Path.{_≡_, refl, sym, ap, _∙_}
 use mathlib.Core.List.{List, [], _∷_, _++_, append-assoc, append-nil}
-use lib.ListN.{length, getD, take, drop, set, length-append, length-set, take-append-drop}
+use lib.ListN.{length, getD, take, drop, set, length-append, take-append-drop}
 use lib.Seq.{sets, sets-eq, length-sets, length-take-le, take-at, drop-at, drop-drop}
 use Rattle.cells.specs.Cells.{putLe}
 use Rattle.rules.specs.Bytes.{bytesOf, encode}
@@ -62,13 +62,8 @@ module _ (s : List ℕ) (at : ℕ) (bs : List ℕ) (h : at + length bs ≤ lengt
   unfolding splice
   drop-splice = drop-at (take at s ++ bs) (drop (at + length bs) s) (at + length bs) head-length
 
--- ---- replies
+-- ---- one run after the other
 
--- the room of a reply that is known
-pub fits : {r q : Reply·} (at : ℕ) {n : ℕ} → r ≡ q → at + length (encode (told· r)) ≤ n → at + size (told· q) ≤ n
-fits at e h = rw (e, encode-size) at h
-
--- one run after the other
 pub wrote-wrote : {s s₁ s₂ a b : List ℕ} {at m r : ℕ} → Wrote s at a s₁ m → Wrote s₁ m b s₂ r
     → at + length a + length b ≤ length s → Wrote s at (a ++ b) s₂ r
 wrote-wrote {s} {s₁} {s₂} {a} {b} {at} p q h =
@@ -76,6 +71,38 @@ wrote-wrote {s} {s₁} {s₂} {a} {b} {at} p q h =
 
 pub wrote-length : {s s₁ a : List ℕ} {at m : ℕ} → Wrote s at a s₁ m → at + length a ≤ length s → length s₁ ≡ length s
 wrote-length {s} {s₁} {a} {at} p h = ap length (p .bytes) ∙ splice-length s at a h
+
+-- ---- the writers: a mark, a number, a mark and a number, a mark and two
+
+pub wrote-mark : {m s : List ℕ} {at : ℕ} → length m ≡ 2 → at + 2 ≤ length s
+    → Wrote s at m (set (set s at (getD m 0 0)) (at + 1) (getD m 1 0)) (at + 2)
+wrote-mark {m} {s} {at} e h = record { bytes = mark-splice m s at e h; end = omega arith }
+
+pub wrote-number : (v : ℕ) {s s′ : List ℕ} {at : ℕ} → at + 8 ≤ length s → s′ ≡ putLe 8 s at v → Wrote s at (bytesOf 8 v) s′ (at + 8)
+wrote-number v {s} {at = at} h e = record { bytes = e ∙ put-splice 8 s at v h; end = omega (arith, bytes-length 8 v) }
+
+module _ (m : List ℕ) (e : length m ≡ 2) (k : ℕ) {s s₁ : List ℕ} {at r₁ : ℕ} where
+  pub wrote-one : at + 10 ≤ length s → Wrote s at m s₁ r₁ → {s₂ : List ℕ} {r : ℕ} → Wrote s₁ r₁ (bytesOf 8 k) s₂ r → Wrote s at (m ++ bytesOf 8 k) s₂ r
+  wrote-one h p q = wrote-wrote p q (omega (arith, bytes-length 8 k))
+
+  module _ (h : at + 18 ≤ length s) (p : Wrote s at (m ++ bytesOf 8 k) s₁ r₁) where
+    ten : length (m ++ bytesOf 8 k) ≡ 10
+    ten = rw length-append (omega (arith, bytes-length 8 k))
+
+    pub one-fits : length s₁ ≡ length s → r₁ + 8 ≤ length s₁
+    one-fits l = omega (arith, ten, p .end)
+
+    pub wrote-two : (v : ℕ) {s₂ : List ℕ} {r : ℕ} → Wrote s₁ r₁ (bytesOf 8 v) s₂ r → Wrote s at (m ++ bytesOf 8 k ++ bytesOf 8 v) s₂ r
+    wrote-two v q = wrote-wrote p q (omega (arith, ten, bytes-length 8 v))
+
+-- ---- replies
+
+-- a reply that is known has its size
+pub reply-size : {r q : Reply·} → r ≡ q → length (encode (told· r)) ≡ size (told· q)
+reply-size {q = q} e = rw e (encode-size (told· q))
+
+pub wrote-reply : {s s′ : List ℕ} {at n : ℕ} {r q : Reply·} → r ≡ q → Wrote s at (encode (told· q)) s′ n → Wrote s at (encode (told· r)) s′ n
+wrote-reply e w = rw e w
 
 -- ---- a buffer that is filled from the front
 

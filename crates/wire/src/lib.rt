@@ -6,10 +6,10 @@ use rules::PhysicalBlock;
 ghost use mathlib.Core.Path.{_≡_};
 ghost use mathlib.Core.List.{_++_};
 ghost use Prim.Native.Nat.{_+_, _≤_};
-ghost use lib.ListN.{length, getD};
-ghost use Rattle.rules.specs.Bytes.{bytesOf, encode, row, table, marks, find, spotAt, made, readAt, parse};
+ghost use lib.ListN.{length};
+ghost use Rattle.rules.specs.Bytes.{bytesOf, encode, row, readAt, parseFrom, parse};
 ghost use Rattle.rules.specs.Verdict.{mostRequestBytes};
-ghost use Rattle.wire.specs.Wire.{asked, told, metAs, placed, meaning, surveyed, Wrote};
+ghost use Rattle.wire.specs.Wire.{told, meaning, Marked, Meets, Spots, Asks, surveyed, Wrote};
 
 pub enum Request {
     Get(GuestBlock),
@@ -33,20 +33,20 @@ pub enum Reply {
 }
 
 // What a row of the table says of a record whose mark was met.
-pub struct Entry {
+struct KnownRow {
     pub kind: Kind,
     pub bytes: usize,
     pub room: usize,
 }
 
-pub enum Found {
-    Row(Entry),
+enum RowFound {
+    Row(KnownRow),
     Nothing,
 }
 
 // What stands at an offset, by its mark and its length.
-pub enum Place {
-    At(Entry),
+enum Spot {
+    At(KnownRow),
     // A mark that no row has.
     Unknown,
     // A record whose bytes are not all there.
@@ -79,57 +79,59 @@ pub struct Survey {
 // Whether the two bytes at an offset are a mark.
 fn marked(s: &[u8], at: usize, mark: &[u8; 2]) -> bool
     requires { ⌜ at + 2 ≤ length (now s) ⌝ }
-    ensures { λ r. ⌜ r ≡ marks (getD (now (s .entry)) at 0) (getD (now (s .entry)) (at + 1) 0) (now (mark .entry)) ⌝ }
+    ensures { λ r. ⌜ Marked (now (s .entry)) at (now (mark .entry)) r ⌝ }
 {
     s[at] == mark[0] && s[at + 1] == mark[1]
 }
 
 // The row of the mark at an offset. It leaves the loop with what is needed of the row, so that the table is not read again.
-fn find_row(s: &[u8], at: usize) -> Found
+fn find_row(s: &[u8], at: usize) -> RowFound
     requires { ⌜ at + 2 ≤ length (now s) ⌝ }
-    ensures { λ r. ⌜ r ≡ metAs (find (getD (now (s .entry)) at 0) (getD (now (s .entry)) (at + 1) 0) table) ⌝ }
+    ensures { λ r. ⌜ Meets (now (s .entry)) at r ⌝ }
 {
     let mut i = 0;
     while i < rules::ROWS {
         let row = rules::row_of(i);
         if marked(s, at, &row.mark) {
             let kind = row.kind;
-            return Found::Row(Entry {
-                kind: kind,
+            return RowFound::Row(KnownRow {
+                kind,
                 bytes: row.bytes,
                 room: row.room,
             });
         }
         i += 1;
     }
-    Found::Nothing
+    RowFound::Nothing
 }
 
-pub fn place_at(s: &[u8], at: usize) -> Place
-    ensures { λ r. ⌜ r ≡ placed (spotAt (now (s .entry)) at) ⌝ }
+// What stands at an offset.
+fn spot_at(s: &[u8], at: usize) -> Spot
+    ensures { λ r. ⌜ Spots (now (s .entry)) at r ⌝ }
 {
     if s.len() <= at {
-        return Place::End;
+        return Spot::End;
     }
     if s.len() - at < 2 {
-        return Place::Cut;
+        return Spot::Cut;
     }
     let found = find_row(s, at);
     match found {
-        Found::Nothing => Place::Unknown,
-        Found::Row(entry) => {
-            let bytes = entry.bytes;
+        RowFound::Nothing => Spot::Unknown,
+        RowFound::Row(known) => {
+            let bytes = known.bytes;
             if s.len() - at < bytes {
-                return Place::Cut;
+                return Spot::Cut;
             }
-            Place::At(entry)
+            Spot::At(known)
         }
     }
 }
 
+// The request of a record all of whose bytes are there.
 fn request_at(s: &[u8], at: usize, kind: Kind) -> Request
     requires { ⌜ at + row kind .bytes ≤ length (now s) ⌝ }
-    ensures { λ r. ⌜ asked r ≡ made (now (s .entry)) at kind ⌝ }
+    ensures { λ r. ⌜ Asks (now (s .entry)) at kind r ⌝ }
 {
     match kind {
         Kind::Get => Request::Get(GuestBlock(cells::get64(s, at + 2))),
@@ -148,48 +150,48 @@ fn request_at(s: &[u8], at: usize, kind: Kind) -> Request
 pub fn next(s: &[u8], at: usize) -> Record
     ensures { λ r. ⌜ meaning r ≡ readAt (now (s .entry)) at ⌝ }
 {
-    let place = place_at(s, at);
-    match place {
-        Place::At(entry) => {
-            let kind = entry.kind;
+    let spot = spot_at(s, at);
+    match spot {
+        Spot::At(known) => {
+            let kind = known.kind;
             let request = request_at(s, at, kind);
-            Record::Ask(request, at + entry.bytes)
+            Record::Ask(request, at + known.bytes)
         }
-        Place::Unknown => Record::Unknown,
-        Place::Cut => Record::Cut,
-        Place::End => Record::End,
+        Spot::Unknown => Record::Unknown,
+        Spot::Cut => Record::Cut,
+        Spot::End => Record::End,
     }
 }
 
-// The walk over all records: the reply room of those that are whole, and where and how it ends.
-pub fn survey_all(s: &[u8]) -> Survey
-    requires { ⌜ length (now s) ≤ mostRequestBytes ⌝ }
-    ensures { λ r. ⌜ r ≡ surveyed (length (now (s .entry))) (parse (now (s .entry))) ⌝ }
+// The walk over the records from an offset on: the reply room of those that are whole, and where and how it ends.
+pub fn survey_from(s: &[u8], start: usize) -> Survey
+    requires { ⌜ (start ≤ length (now s)) × (length (now s) ≤ mostRequestBytes) ⌝ }
+    ensures { λ r. ⌜ r ≡ surveyed (length (now (s .entry))) (parseFrom (now (s .entry)) start) ⌝ }
 {
-    let mut at = 0;
+    let mut at = start;
     let mut room = 0;
     loop {
-        let place = place_at(s, at);
-        match place {
-            Place::At(entry) => {
-                at += entry.bytes;
-                room += entry.room;
+        let spot = spot_at(s, at);
+        match spot {
+            Spot::At(known) => {
+                at += known.bytes;
+                room += known.room;
             }
-            Place::Unknown => {
+            Spot::Unknown => {
                 return Survey {
                     room,
                     at,
                     stop: Stop::Unknown,
                 }
             }
-            Place::Cut => {
+            Spot::Cut => {
                 return Survey {
                     room,
                     at,
                     stop: Stop::Cut,
                 }
             }
-            Place::End => {
+            Spot::End => {
                 return Survey {
                     room,
                     at,
@@ -198,6 +200,14 @@ pub fn survey_all(s: &[u8]) -> Survey
             }
         }
     }
+}
+
+// The walk over all records.
+pub fn survey_all(s: &[u8]) -> Survey
+    requires { ⌜ length (now s) ≤ mostRequestBytes ⌝ }
+    ensures { λ r. ⌜ r ≡ surveyed (length (now (s .entry))) (parse (now (s .entry))) ⌝ }
+{
+    survey_from(s, 0)
 }
 
 // Each writer writes at an offset and gives the offset after it: a mark, a number, a mark and a number, a mark and two.

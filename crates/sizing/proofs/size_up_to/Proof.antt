@@ -12,7 +12,8 @@ unfolding ofBits
 small-fits c = record { room = search needs; ratio = cc; most = c .if4 .left }
 
 -- past all tests of the settings
-ratios-fit : (c : tie.Else5) → let a = c .before .before .before .before .before .before .before .args in RatiosFit (a .top) (a .s .capacity) (a .s .«small_ratio») (a .s .«ghost_ratio»)
+ratios-fit : (c : tie.Else5)
+    → let a = c .before .before .before .before .before .before .before .args in RatiosFit (a .top) (a .s .capacity) (a .s .«small_ratio») (a .s .«ghost_ratio»)
 ratios-fit c = record { small = small-fits (c .before .before); ratio = cc }
 
 returns : tie.Need-returns

@@ -1,7 +1,8 @@
--- `wire::put_reply` meets its contract: in each arm the reply is known, and the writer of its shape writes it.
+-- `wire::put_reply` meets its contract: in each arm the reply is known, and with it its size and its bytes.
 -- Assumes nothing.
 use borrow.Author.Needs.{needs}
-use Rattle.wire.proofs.SpliceLaws.{fits}
+use native.Mathlib.Omega.{arith}
+use Rattle.wire.proofs.SpliceLaws.{reply-size, wrote-reply}
 use Rattle.wire.proofs.put_reply.Statement.{statement}
 use Rattle.wire.proofs.put_reply.Tie as tie
 
@@ -9,39 +10,21 @@ pub put-reply-spec : {M : Type 1} → statement M
 put-reply-spec =
     tie.close
     (tie.spec
-    (λ c. search needs)
-    (λ c κs. fits _ (c .before .before .before .enum-told .given .1) (c .before .before .before .before .before .before .pre))
-    (λ c. search needs)
-    (λ c κs. fits _ (c .before .before .before .enum-told2 .given .1) (c .before .before .before .before .before .before .pre))
-    (λ c. search needs)
-    (λ c κs. fits _ (c .before .before .before .before .reply .given .1) (c .before .before .before .before .before .before .before .pre))
-    (λ c. search needs)
-    (λ c κs. fits _ (c .before .before .before .before .reply2 .given .1) (c .before .before .before .before .before .before .before .pre))
-    (λ c. search needs)
-    (λ c κs. fits _ (c .before .before .before .before .reply3 .given .1) (c .before .before .before .before .before .before .before .pre))
-    (λ c. search needs)
-    (λ c κs. fits _ (c .before .before .before .before .reply4 .given .1) (c .before .before .before .before .before .before .before .pre))
-    (λ c. search needs)
-    (λ c κs. fits _ (c .before .before .before .before .reply5 .given .1) (c .before .before .before .before .before .before .before .pre))
-    (λ c. search needs)
-    (λ c κs. fits _ (c .before .before .before .before .reply6 .given .1) (c .before .before .before .before .before .before .before .pre))
-    (λ c. search needs)
-    (λ c κs. fits _ (c .before .before .before .before .reply7 .given .1) (c .before .before .before .before .before .before .before .pre))
-    (λ c. search needs)
-    (λ c. rw (c .before .before .before .before .before .before .enum-told .given .1) (c .before .before .put-mark .ensures))
-    (λ c. search needs)
-    (λ c. rw (c .before .before .before .before .before .before .enum-told2 .given .1) (c .before .before .put-mark2 .ensures))
-    (λ c. search needs)
-    (λ c. rw (c .before .before .before .before .before .before .before .reply .given .1) (c .before .before .put-one .ensures))
-    (λ c. search needs)
-    (λ c. rw (c .before .before .before .before .before .before .before .reply2 .given .1) (c .before .before .put-one2 .ensures))
-    (λ c. search needs)
-    (λ c. rw (c .before .before .before .before .before .before .before .reply3 .given .1) (c .before .before .put-one3 .ensures))
-    (λ c. search needs)
-    (λ c. rw (c .before .before .before .before .before .before .before .reply4 .given .1) (c .before .before .put-one4 .ensures))
-    (λ c. search needs)
-    (λ c. rw (c .before .before .before .before .before .before .before .reply5 .given .1) (c .before .before .put-two .ensures))
-    (λ c. search needs)
-    (λ c. rw (c .before .before .before .before .before .before .before .reply6 .given .1) (c .before .before .put-two2 .ensures))
-    (λ c. search needs)
-    (λ c. rw (c .before .before .before .before .before .before .before .reply7 .given .1) (c .before .before .put-two3 .ensures)))
+    (λ c. search needs) (λ c κs. omega (arith, reply-size))
+    (λ c. search needs) (λ c κs. omega (arith, reply-size))
+    (λ c. search needs) (λ c κs. omega (arith, reply-size))
+    (λ c. search needs) (λ c κs. omega (arith, reply-size))
+    (λ c. search needs) (λ c κs. omega (arith, reply-size))
+    (λ c. search needs) (λ c κs. omega (arith, reply-size))
+    (λ c. search needs) (λ c κs. omega (arith, reply-size))
+    (λ c. search needs) (λ c κs. omega (arith, reply-size))
+    (λ c. search needs) (λ c κs. omega (arith, reply-size))
+    (λ c. search needs) (λ c. search wrote-reply)
+    (λ c. search needs) (λ c. search wrote-reply)
+    (λ c. search needs) (λ c. search wrote-reply)
+    (λ c. search needs) (λ c. search wrote-reply)
+    (λ c. search needs) (λ c. search wrote-reply)
+    (λ c. search needs) (λ c. search wrote-reply)
+    (λ c. search needs) (λ c. search wrote-reply)
+    (λ c. search needs) (λ c. search wrote-reply)
+    (λ c. search needs) (λ c. search wrote-reply))

@@ -21,10 +21,10 @@ use Rattle.rules.proofs.SoundLaws.{moved-sound, left-sound}
 use Rattle.store.specs.declared.QueueKind.{QueueKind}
 use Rattle.store.specs.declared.QueueKind.the-variants.{Small as Small·, Main as Main·}
 use Rattle.store.specs.Holds.{stateIn, Keeps, Held, Becomes}
-use Rattle.store.specs.Seats.{queueKind, Seat, Seated, Tail, Freed, SentBack}
+use Rattle.store.specs.Seats.{queueKind, Seat, Seated, Tail, EntryRemoved, Reattached}
 use Rattle.store.proofs.KeepsLaws.{seat-key, seat-value, seat-freq, seat-queue, seat-node}
 use Rattle.store.proofs.LookLaws.{tail-seated}
-use Rattle.ghost_list.specs.Ghosts.{Buries}
+use Rattle.ghost_list.specs.Ghosts.{RecordedTail}
 use Rattle.evict.specs.declared.Turn.{Turn as Turn·}
 use Rattle.evict.specs.declared.Turn.the-variants.{Moved, Left}
 use Rattle.evict.specs.Evicts.{coolTo, turnOf, Picks, Steps, Leaves}
@@ -52,10 +52,10 @@ picks-some {z} {s} {q} p h = some-length (queueOf q (stateIn z s)) (λ n. let y 
 
 -- ---- what leaves
 
-pub leaves-small : {z : Shape} {s s′ : List ℕ} {x : ℕ} (q : QueueKind) → q ≡ Small· → Buries z s s′ x → Leaves z s s′ (queueKind q) x
+pub leaves-small : {z : Shape} {s s′ : List ℕ} {x : ℕ} (q : QueueKind) → q ≡ Small· → RecordedTail z s s′ x → Leaves z s s′ (queueKind q) x
 leaves-small q e m = rw e (record { of = m .of })
 
-pub leaves-main : {z : Shape} {s s′ : List ℕ} {x : ℕ} (q : QueueKind) → q ≡ Main· → Freed z s s′ Main x → Leaves z s s′ (queueKind q) x
+pub leaves-main : {z : Shape} {s s′ : List ℕ} {x : ℕ} (q : QueueKind) → q ≡ Main· → EntryRemoved z s s′ Main x → Leaves z s s′ (queueKind q) x
 leaves-main {z} {s} {s′} {x} q e m = rw e (record { of = λ b y t. rw (← append-nil b) (m .of b y [] t) })
 
 -- a tail of a known queue
@@ -84,7 +84,7 @@ pub tail-node : {z : Shape} {s : List ℕ} → Held z s → {q : Queue} {x : ℕ
 tail-node h t = omega (arith, seat-node (h .keeps) (t .seat))
 
 -- an entry that was sent back with its frequency cooled went back as the rules say
-pub went-back : {z : Shape} {s s′ : List ℕ} {q : Queue} {x f : ℕ} (t : Tail z s q x) → GetsField z s Freq x f → SentBack z s s′ q x (coolTo q f) → Becomes z s s′ (back q (t .before) (t .entry) (stateIn z s))
+pub went-back : {z : Shape} {s s′ : List ℕ} {q : Queue} {x f : ℕ} (t : Tail z s q x) → GetsField z s Freq x f → Reattached z s s′ q x (coolTo q f) → Becomes z s s′ (back q (t .before) (t .entry) (stateIn z s))
 went-back {z} {s} {s′} {q} {x} {f} t g b =
     let e : Entry = t .entry in
     let σ : State = stateIn z s in
@@ -100,7 +100,7 @@ module _ {z : Shape} {s : List ℕ} (h : Held z s) (q : QueueKind) (v : Picks z 
   freq-is : f ≡ t .entry .freq
   freq-is = seat-freq (t .seat) g
 
-  pub steps-moved : 0 < f → {s′ : List ℕ} → SentBack z s s′ (queueKind q) x (coolTo (queueKind q) f) → Steps z s s′ (Moved q)
+  pub steps-moved : 0 < f → {s′ : List ℕ} → Reattached z s s′ (queueKind q) x (coolTo (queueKind q) f) → Steps z s s′ (Moved q)
   steps-moved w {s′} b =
       let e : Entry = t .entry in
       let σ : State = stateIn z s in
@@ -131,5 +131,5 @@ module _ {z : Shape} {s : List ℕ} (h : Held z s) (q : QueueKind) (v : Picks z 
         rest = r .rest;
       }
 
-pub back-cooled : {z : Shape} {s s′ : List ℕ} (q : QueueKind) (f : ℕ) {x m : ℕ} → m ≡ coolTo (queueKind q) f → SentBack z s s′ (queueKind q) x m → SentBack z s s′ (queueKind q) x (coolTo (queueKind q) f)
+pub back-cooled : {z : Shape} {s s′ : List ℕ} (q : QueueKind) (f : ℕ) {x m : ℕ} → m ≡ coolTo (queueKind q) f → Reattached z s s′ (queueKind q) x m → Reattached z s s′ (queueKind q) x (coolTo (queueKind q) f)
 back-cooled q f e b = rw e at b

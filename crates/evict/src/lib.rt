@@ -6,7 +6,7 @@ ghost use mathlib.Core.List.{[], _∷_};
 ghost use Rattle.rules.specs.State.{fresh, residents};
 ghost use Rattle.rules.specs.Eviction.{evict, evictIfFull, tell};
 ghost use Rattle.store.specs.Holds.{stateIn, Held};
-ghost use Rattle.store.specs.Seats.{queueKind, Tail, SentBack};
+ghost use Rattle.store.specs.Seats.{queueKind, Tail, Reattached};
 ghost use Rattle.evict.specs.Evicts.{coolTo, pushedOf, Picks, Steps, Makes, Leaves};
 use nodes::Shape;
 use rules::GuestBlock;
@@ -69,17 +69,17 @@ fn leave(s: &mut [u8], z: Shape, q: QueueKind, x: usize)
     ensures { λ _. ⌜ Leaves z (now (s .entry)) (now (s .exit)) (queueKind q) x ⌝ }
 {
     match q {
-        QueueKind::Small => ghost_list::bury(s, z, x),
-        QueueKind::Main => store::release(s, z, QueueKind::Main, x),
+        QueueKind::Small => ghost_list::record_tail(s, z, x),
+        QueueKind::Main => store::remove_at(s, z, QueueKind::Main, x),
     }
 }
 
 // An entry goes to Main's head with its frequency cooled.
 pub fn go_back(s: &mut [u8], z: Shape, q: QueueKind, x: usize, freq: usize)
     requires { ⌜ Held z (now s) × Tail z (now s) (queueKind q) x × (freq < 256) ⌝ }
-    ensures { λ _. ⌜ SentBack z (now (s .entry)) (now (s .exit)) (queueKind q) x (coolTo (queueKind q) freq) ⌝ }
+    ensures { λ _. ⌜ Reattached z (now (s .entry)) (now (s .exit)) (queueKind q) x (coolTo (queueKind q) freq) ⌝ }
 {
-    store::send_back(s, z, q, x, cooled(q, freq));
+    store::reattach_main_head(s, z, q, x, cooled(q, freq));
 }
 
 // The tail that was picked goes back or leaves, by its frequency.
@@ -146,7 +146,7 @@ fn residents_of(s: &[u8], z: Shape) -> u64
 }
 
 // Eviction where the cache is full; otherwise nothing.
-pub fn evict_if_full(s: &mut [u8], z: Shape) -> Evicted
+pub fn evict_if_needed(s: &mut [u8], z: Shape) -> Evicted
     requires { ⌜ Held z (now s) ⌝ }
     ensures { λ r. ⌜ Makes z (now (s .entry)) (now (s .exit)) (evictIfFull (stateIn z (now (s .entry)))) r ⌝ }
 {

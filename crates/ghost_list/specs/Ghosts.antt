@@ -52,5 +52,5 @@ pub record Emptied (z : Shape) (s s′ : List ℕ) : Type 0 where
   pub becomes : Becomes z s s′ (setGhosts (clearGhosts (stateIn z s .ghosts)) (stateIn z s))
 
 -- the last entry of Small left, and was recorded
-pub record Buries (z : Shape) (s s′ : List ℕ) (x : ℕ) : Type 0 where
+pub record RecordedTail (z : Shape) (s s′ : List ℕ) (x : ℕ) : Type 0 where
   pub of : (b : List Entry) (e : Entry) → Seat z s Small x b e [] → Becomes z s s′ (ghosted Small e (setQueue Small b (stateIn z s)))

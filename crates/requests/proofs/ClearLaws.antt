@@ -13,7 +13,7 @@ use Rattle.rules.specs.Requests.{apply}
 use Rattle.rules.proofs.PartsLaws.{nil}
 use Rattle.rules.proofs.StateLaws.{set-again, set-own, own-queue}
 use Rattle.store.specs.Holds.{stateIn, Keeps, Becomes}
-use Rattle.store.specs.Seats.{Tail, Freed}
+use Rattle.store.specs.Seats.{Tail, EntryRemoved}
 use Rattle.store.proofs.KeepsLaws.{seat-queue}
 use Rattle.wire.specs.declared.Reply.the-variants.{Cleared}
 use Rattle.ghost_list.specs.Ghosts.{Emptied}
@@ -35,7 +35,7 @@ pub draining-start : {z : Shape} {s : List ℕ} (q : Queue) → Keeps z s → Dr
 draining-start q k = record { keeps = k; state = refl; rest = refl; same = refl }
 
 module _ {z : Shape} {s₀ s : List ℕ} {q : Queue} (c : Draining z s₀ s q) where
-  module _ {s₁ : List ℕ} {x : ℕ} (t : Tail z s q x) (m : Freed z s s₁ q x) where
+  module _ {s₁ : List ℕ} {x : ℕ} (t : Tail z s q x) (m : EntryRemoved z s s₁ q x) where
     fell : Becomes z s s₁ (setQueue q (t .before) (stateIn z s))
     fell = rw (← append-nil (t .before)) (m .of (t .before) (t .entry) [] (t .seat))
 

@@ -19,7 +19,7 @@ use Rattle.rules.proofs.PartsLaws.{nil, null-none, null-some}
 use Rattle.rules.proofs.EngineLaws.{first-pops, first-empty, second-pops}
 use Rattle.rules.proofs.SoundLaws.{back-sound}
 use Rattle.store.specs.Holds.{stateIn, Held}
-use Rattle.store.specs.Seats.{Tail, Freed, SentBack}
+use Rattle.store.specs.Seats.{Tail, EntryRemoved, Reattached}
 use Rattle.store.proofs.KeepsLaws.{seat-key, seat-value, seat-freq, seat-queue}
 use Rattle.wire.specs.declared.Reply.{Reply as Reply·}
 use Rattle.wire.specs.declared.Reply.the-variants.{Miss, Handed as Handed·}
@@ -39,7 +39,7 @@ module _ {z : Shape} {s : List ℕ} {q : Queue} {x : ℕ} (t : Tail z s q x) {f 
   freq-is : f ≡ t .entry .freq
   freq-is = seat-freq (t .seat) g
 
-  pub pop-back : 0 < f → {s′ : List ℕ} → SentBack z s s′ q x (coolTo q f) → Pops z s s′ q Back
+  pub pop-back : 0 < f → {s′ : List ℕ} → Reattached z s s′ q x (coolTo q f) → Pops z s s′ q Back
   pop-back w b =
       record {
         before = t .before;
@@ -48,7 +48,7 @@ module _ {z : Shape} {s : List ℕ} {q : Queue} {x : ℕ} (t : Tail z s q x) {f 
         comes = rw (lt-ltb 0 (t .entry .freq) (omega (arith, freq-is))) (record { becomes = went-back t g b; replies = refl });
       }
 
-  pub pop-out : f ≤ 0 → {a b : ℕ} → GetsField z s Key x a → GetsField z s Value x b → {s′ : List ℕ} → Freed z s s′ q x
+  pub pop-out : f ≤ 0 → {a b : ℕ} → GetsField z s Key x a → GetsField z s Value x b → {s′ : List ℕ} → EntryRemoved z s s′ q x
       → (k : GuestBlock) → k .0 ≡ a → (p : PhysicalBlock) → p .0 ≡ b → Pops z s s′ q (Handed k p)
   pop-out w ra rb m k ek p ep =
       record {

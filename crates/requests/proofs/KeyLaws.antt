@@ -13,10 +13,10 @@ use Rattle.rules.specs.Requests.{apply, onGet, onPeek, onRemove, onInsert}
 use Rattle.rules.proofs.StateLaws.{place-law}
 use Rattle.rules.proofs.EngineLaws.{place-none}
 use Rattle.store.specs.declared.QueueKind.{QueueKind}
-use Rattle.store.specs.declared.Spot.{Spot}
-use Rattle.store.specs.declared.Spot.the-variants.{Resident, Ghost, Absent}
+use Rattle.store.specs.declared.Lookup.{Lookup}
+use Rattle.store.specs.declared.Lookup.the-variants.{Resident, Ghost, Absent}
 use Rattle.store.specs.Holds.{stateIn, Keeps, Held, Becomes}
-use Rattle.store.specs.Seats.{queueKind, Marked, Replaced, Freed}
+use Rattle.store.specs.Seats.{queueKind, FreqSet, Replaced, EntryRemoved}
 use Rattle.store.specs.Looks.{Looks}
 use Rattle.store.proofs.KeepsLaws.{seat-node, seat-value, seat-freq, becomes-then}
 use Rattle.wire.specs.declared.Reply.the-variants.{Miss, Hit, Replaced as Replaced·, Gone}
@@ -47,9 +47,9 @@ pub record Nowhere (z : Shape) (s : List ℕ) (k : ℕ) : Type 0 where
 pub nowhere-keyed : {z : Shape} {s : List ℕ} {k : ℕ} → Nowhere z s k → keyed k (stateIn z s) ≡ 0
 nowhere-keyed {z} {s} {k} n = rw (n .place-is) at (place-law k (stateIn z s))
 
-module _ {z : Shape} {s : List ℕ} {k : ℕ} {r : Spot} (l : Looks z s k r) where
+module _ {z : Shape} {s : List ℕ} {k : ℕ} {r : Lookup} (l : Looks z s k r) where
   pub nowhere-ghost : {x : ℕ} → r ≡ Ghost x → Nowhere z s k
-  nowhere-ghost {x} e = record { place-is = l .haunt x e .place-is }
+  nowhere-ghost {x} e = record { place-is = l .is-ghost x e .place-is }
 
   pub nowhere-absent : r ≡ Absent → Nowhere z s k
   nowhere-absent e = record { place-is = place-none k (stateIn z s) (omega (arith, l .absent e .none)) }
@@ -72,7 +72,7 @@ module _ {z : Shape} {s : List ℕ} {k : ℕ} (h : Held z s) (n : Nowhere z s k)
 
 -- ---- a resident key
 
-module _ {z : Shape} {s : List ℕ} {k : ℕ} {r : Spot} (l : Looks z s k r) {q : QueueKind} {x : ℕ} (e : r ≡ Resident q x) where
+module _ {z : Shape} {s : List ℕ} {k : ℕ} {r : Lookup} (l : Looks z s k r) {q : QueueKind} {x : ℕ} (e : r ≡ Resident q x) where
   pub resident-node : Held z s → x < z .room
   resident-node h = seat-node (h .keeps) (l .resident q x e .seat)
 
@@ -87,7 +87,7 @@ module _ {z : Shape} {s : List ℕ} {k : ℕ} {r : Spot} (l : Looks z s k r) {q 
     old : b .0 ≡ l .resident q x e .entry .value
     old = i ∙ seat-value (l .resident q x e .seat) g
 
-    pub get-hit : {s′ : List ℕ} {m n : ℕ} → GetsField z s Freq x m → n ≡ min maxFreq (m + 1) → Marked z s s′ x n → {a : Spoken} → a ≡ alone (Hit b) → Answers z s s′ (GT k) a
+    pub get-hit : {s′ : List ℕ} {m n : ℕ} → GetsField z s Freq x m → n ≡ min maxFreq (m + 1) → FreqSet z s s′ x n → {a : Spoken} → a ≡ alone (Hit b) → Answers z s s′ (GT k) a
     unfolding apply onGet
     get-hit {s′} f w c d =
         let t = l .resident q x e in
@@ -102,7 +102,7 @@ module _ {z : Shape} {s : List ℕ} {k : ℕ} {r : Spot} (l : Looks z s k r) {q 
         let t = l .resident q x e in
         answers (says (stateIn z s) (HI (t .entry .value))) (ap (onPeek (stateIn z s)) (t .place-is)) (becomes-same (h .keeps)) (ap spokenOf d ∙ ap (λ y. HI y ∷ []) old)
 
-    pub remove-gone : {s′ : List ℕ} → Freed z s s′ (queueKind q) x → {a : Spoken} → a ≡ alone (Gone b) → Answers z s s′ (RM k) a
+    pub remove-gone : {s′ : List ℕ} → EntryRemoved z s s′ (queueKind q) x → {a : Spoken} → a ≡ alone (Gone b) → Answers z s s′ (RM k) a
     unfolding apply onRemove
     remove-gone c d =
         let t = l .resident q x e in

@@ -16,7 +16,7 @@ use nodes::Shape;
 use rules::GuestBlock;
 use rules::PhysicalBlock;
 use store::QueueKind;
-use store::Spot;
+use store::Lookup;
 use wire::Reply;
 
 // What a request answers: the pair that eviction pushed out, and the closing reply.
@@ -59,14 +59,14 @@ pub fn get(s: &mut [u8], z: Shape, k: GuestBlock) -> Spoken
 {
     let spot = store::look(s, z, k.0);
     match spot {
-        Spot::Resident(_, x) => {
+        Lookup::Resident(_, x) => {
             let v = nodes::value_of(s, z, x);
             let n = raised(nodes::freq_of(s, z, x));
             store::set_freq(s, z, x, n);
             alone(Reply::Hit(PhysicalBlock(v)))
         }
-        Spot::Ghost(_) => alone(Reply::Miss),
-        Spot::Absent => alone(Reply::Miss),
+        Lookup::Ghost(_) => alone(Reply::Miss),
+        Lookup::Absent => alone(Reply::Miss),
     }
 }
 
@@ -77,9 +77,9 @@ pub fn peek(s: &[u8], z: Shape, k: GuestBlock) -> Spoken
 {
     let spot = store::look(s, z, k.0);
     match spot {
-        Spot::Resident(_, x) => alone(Reply::Hit(PhysicalBlock(nodes::value_of(s, z, x)))),
-        Spot::Ghost(_) => alone(Reply::Miss),
-        Spot::Absent => alone(Reply::Miss),
+        Lookup::Resident(_, x) => alone(Reply::Hit(PhysicalBlock(nodes::value_of(s, z, x)))),
+        Lookup::Ghost(_) => alone(Reply::Miss),
+        Lookup::Absent => alone(Reply::Miss),
     }
 }
 
@@ -90,13 +90,13 @@ pub fn remove(s: &mut [u8], z: Shape, k: GuestBlock) -> Spoken
 {
     let spot = store::look(s, z, k.0);
     match spot {
-        Spot::Resident(q, x) => {
+        Lookup::Resident(q, x) => {
             let v = nodes::value_of(s, z, x);
-            store::release(s, z, q, x);
+            store::remove_at(s, z, q, x);
             alone(Reply::Gone(PhysicalBlock(v)))
         }
-        Spot::Ghost(_) => alone(Reply::Miss),
-        Spot::Absent => alone(Reply::Miss),
+        Lookup::Ghost(_) => alone(Reply::Miss),
+        Lookup::Absent => alone(Reply::Miss),
     }
 }
 
@@ -105,8 +105,8 @@ fn arrive(s: &mut [u8], z: Shape, q: QueueKind, k: GuestBlock, v: PhysicalBlock)
     requires { ⌜ Held z (now s) × Lacks z (now s) (k .0) ⌝ }
     ensures { λ r. ⌜ Arrives z (now (s .entry)) (now (s .exit)) (queueKind q) (k .0) (v .0) r ⌝ }
 {
-    let evicted = evict::evict_if_full(s, z);
-    store::admit(s, z, q, k.0, v.0);
+    let evicted = evict::evict_if_needed(s, z);
+    store::attach_head(s, z, q, k.0, v.0);
     let pushed = evicted.pushed;
     Spoken {
         pushed,
@@ -122,17 +122,17 @@ pub fn insert(s: &mut [u8], z: Shape, k: GuestBlock, v: PhysicalBlock) -> Spoken
 {
     let spot = store::look(s, z, k.0);
     match spot {
-        Spot::Resident(_, x) => {
+        Lookup::Resident(_, x) => {
             let old = nodes::value_of(s, z, x);
             let n = raised(nodes::freq_of(s, z, x));
             store::replace(s, z, x, v.0, n);
             alone(Reply::Replaced(PhysicalBlock(old)))
         }
-        Spot::Ghost(x) => {
-            store::exhume(s, z, x);
+        Lookup::Ghost(x) => {
+            store::remove_ghost(s, z, x);
             arrive(s, z, QueueKind::Main, k, v)
         }
-        Spot::Absent => arrive(s, z, QueueKind::Small, k, v),
+        Lookup::Absent => arrive(s, z, QueueKind::Small, k, v),
     }
 }
 
@@ -149,7 +149,7 @@ fn pop(s: &mut [u8], z: Shape, q: QueueKind) -> Popped
     }
     let k = nodes::key_of(s, z, x);
     let v = nodes::value_of(s, z, x);
-    store::release(s, z, q, x);
+    store::remove_at(s, z, q, x);
     Popped::Handed(GuestBlock(k), PhysicalBlock(v))
 }
 
@@ -197,7 +197,7 @@ pub fn evict_one(s: &mut [u8], z: Shape) -> Spoken
     requires { ⌜ Held z (now s) ⌝ }
     ensures { λ r. ⌜ Answers z (now (s .entry)) (now (s .exit)) Request.EV r ⌝ }
 {
-    let evicted = evict::evict_if_full(s, z);
+    let evicted = evict::evict_if_needed(s, z);
     let pushed = evicted.pushed;
     let closing = first(s, z);
     Spoken { pushed, closing }
@@ -210,7 +210,7 @@ fn drain(s: &mut [u8], z: Shape, q: QueueKind)
 {
     while 0 < store::len_of(s, z, q) {
         let x = store::tail_of(s, z, q);
-        store::release(s, z, q, x);
+        store::remove_at(s, z, q, x);
     }
 }
 

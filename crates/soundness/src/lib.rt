@@ -50,7 +50,7 @@ fn few_enough(s: &[u8], z: Shape) -> bool
         return false;
     }
     let ghost_limit = store::ghost_limit_of(s, z);
-    store::ghosts_len(s, z) <= ghost_limit
+    store::ghost_len(s, z) <= ghost_limit
 }
 
 // Whether node x, if it is a resident's, has a frequency of 3 at most. The frequencies of ghosts and of free nodes are of no account.

@@ -1,4 +1,5 @@
 pub mod MapLaws
+pub mod EntriesLaws
 pub mod ShownLaws
 pub mod LookLaws
 pub mod KeepsLaws

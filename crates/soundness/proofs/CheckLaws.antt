@@ -7,18 +7,20 @@ use Prim.Native.Nat.{ℕ, _+_, _-_, _≤_, _<_}
 use native.Mathlib.Omega.{arith}
 use native.Mathlib.Decide.{decLe}
 use lib.Dec.{leb}
-use lib.ListN.{length, getD}
+use lib.ListN.{length}
 use borrow.Author.Tests.{not-true, not-false, le-leb, lt-leb}
 use Rattle.cells.specs.Cells.{Bytes}
 use Rattle.cells.specs.Decides.{Decides, All}
 use Rattle.cells.proofs.DecidesLaws.{accept, refuse, decides-map}
-use Rattle.nodes.specs.Nodes.{Queue as Tag, Freq, cols, Room, GetsField}
+use Rattle.nodes.specs.Nodes.{cols, Room}
 use Rattle.nodes.specs.declared.Shape.{Shape}
 use Rattle.pool.specs.Carries.{Pooled}
-use Rattle.rules.specs.State.{Limits, State, Queue, Small, Main, most, maxFreq, residents, Fine, Sound}
+use Rattle.rules.specs.State.{Entry, Limits, State, most, maxFreq, residents, Fine, Sound}
 use Rattle.rules.specs.Verdict.{storeBytes}
 use Rattle.rules.proofs.PartsLaws.{length-total}
-use Rattle.store.specs.Holds.{listNo, limitsIn, stateIn, shapeFor, Keeps, Held, Holds}
+use Rattle.store.specs.declared.Entry.{Entry as Entry·}
+use Rattle.store.specs.Holds.{entryAt, limitsIn, stateIn, shapeFor, Keeps, Held, Holds}
+use Rattle.store.specs.Entries.{GetsEntry, HoldsResident}
 use Rattle.store.specs.Created.{Stated}
 use Rattle.store.proofs.HoldsLaws.{limits-shown, holds-limits, holds-held, room-for}
 use Rattle.soundness.specs.declared.Checked.{Checked}
@@ -79,23 +81,16 @@ module _ {σ : State} {a m : ℕ} (ra : a ≡ σ .limits .capacity) (rm : m ≡ 
 
 -- ---- how warm a node is
 
-module _ {z : Shape} {s : List ℕ} {x m : ℕ} (rm : GetsField z s Freq x m) where
-  pub freq-cool : m ≤ maxFreq → Decides (Cool z s x) true
-  freq-cool h = accept (record { cool = λ q e. omega (arith, rm .value) })
+module _ {z : Shape} {s : List ℕ} {x : ℕ} {e : Entry·} (g : GetsEntry z s x e) where
+  freq-read : e .freq ≡ entryAt (cols z s) x .freq
+  freq-read = ap (λ (y : Entry). y .freq) (g .entry)
 
-  module _ (h : maxFreq < m) {t : ℕ} (rt : GetsField z s Tag x t) where
-    pub small-warm : t ≡ 1 → Decides (Cool z s x) false
-    small-warm e = refuse (λ k. omega (arith, k .cool Small (sym (rt .value) ∙ e), rm .value))
+  pub freq-cool : e .freq ≤ maxFreq → Decides (Cool z s x) true
+  freq-cool h = accept (record { cool = λ r. omega (arith, freq-read) })
 
-    pub main-warm : t ≡ 2 → Decides (Cool z s x) false
-    main-warm e = refuse (λ k. omega (arith, k .cool Main (sym (rt .value) ∙ e), rm .value))
-
-    pub none-warm : (t ≡ 1 → ⊥) → (t ≡ 2 → ⊥) → Decides (Cool z s x) true
-    none-warm a b = accept (record { cool = λ q e. absurd (neither q (rt .value ∙ e)) })
-      where
-        neither : (q : Queue) → t ≡ listNo q → ⊥
-        neither Small e = a e
-        neither Main e = b e
+  pub resident-warm : maxFreq < e .freq → (b : Bool) → Decides (HoldsResident z s x) b → Decides (Cool z s x) (not b)
+  resident-warm h true d = refuse (λ k. omega (arith, k .cool (d .holds refl), freq-read))
+  resident-warm h false d = accept (record { cool = λ r. absurd (d .fails refl r) })
 
 -- ---- at one shape
 

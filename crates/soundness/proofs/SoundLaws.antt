@@ -136,7 +136,7 @@ module _ (z : Shape) (s : List ℕ) (p : Pooled z s) where
   cool-queue : All (Cool z s) (z .room) → (q : Queue) → warm q ≡ 0
   cool-queue h q =
       total-none (λ y. bit (ltb maxFreq (freqAt y))) (listsOf z (cols z s) (listNo q))
-      (λ y m. ap bit (le-ltb maxFreq (freqAt y) (h .all y (pooled-node p (kind q) m) .cool q (among-tag (p .carries) (kind q) m))))
+      (λ y m. ap bit (le-ltb maxFreq (freqAt y) (h .all y (pooled-node p (kind q) m) .cool (record { queue = q; names = among-tag (p .carries) (kind q) m }))))
 
   pub nodes-cool : All (Cool z s) (z .room) → tooWarm (stateIn z s) ≡ 0
   nodes-cool h = omega (arith, warm-shown, cool-queue h Small, cool-queue h Main)
@@ -154,8 +154,12 @@ module _ (z : Shape) (s : List ℕ) (p : Pooled z s) where
       record {
         all = λ y b.
             record {
-              cool = λ q e.
+              cool = λ r.
                   cool-by (freqAt y) (ltb maxFreq (freqAt y)) refl
-                  (omega (arith, queue-cool h q, total-some (λ x. bit (ltb maxFreq (freqAt x))) (lists-place (p .carries .lists) (p .carries .whole) y b e)));
+                  (omega (
+                    arith,
+                    queue-cool h (r .queue),
+                    total-some (λ x. bit (ltb maxFreq (freqAt x))) (lists-place (p .carries .lists) (p .carries .whole) y b (r .names)),
+                  ));
             };
       }

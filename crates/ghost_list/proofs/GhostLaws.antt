@@ -9,7 +9,6 @@ use native.Mathlib.Omega.{arith}
 use lib.Dec.{eqb, ltb}
 use lib.ListN.{length}
 use borrow.Author.Tests.{eq-eqb, lt-ltb, le-ltb, ltb-true, ltb-false}
-use Rattle.nodes.specs.Nodes.{Key, Rest, cols, GetsField}
 use Rattle.nodes.specs.declared.Shape.{Shape}
 use Rattle.rules.specs.declared.GuestBlock.{GuestBlock}
 use Rattle.rules.specs.Parts.{bit, total, Pop, popped, popTail, Split, missing, found, splitBy}
@@ -20,15 +19,16 @@ use Rattle.rules.proofs.PartsLaws.{nil}
 use Rattle.rules.proofs.StateLaws.{put-total}
 use Rattle.rules.proofs.GhostsLaws.{lru-total, lru-less, record-zero, record-there, record-room, record-full, record-over}
 use Rattle.rules.proofs.EngineLaws.{pop-is, split-none}
-use Rattle.store.specs.Holds.{stateIn, Keeps, Held, Becomes}
+use Rattle.store.specs.Holds.{stateIn, restIn, Keeps, Held, Becomes}
+use Rattle.store.specs.Entries.{GetsGhost}
 use Rattle.store.specs.declared.QueueKind.{QueueKind}
 use Rattle.store.specs.declared.Lookup.{Lookup}
 use Rattle.store.specs.declared.Lookup.the-variants.{Resident, Ghost, Absent}
-use Rattle.store.specs.Seats.{queueKind, Seat, Tail, GhostSeat, GhostSeated, Oldest, DetachedToGhosts, GhostRemoved, Fronted, CanPushFront}
+use Rattle.store.specs.Seats.{queueKind, Seat, Tail, GhostSeat, GhostSeated, Oldest, DetachedToGhosts, GhostRemoved, Fronted, CanPushFront, PushedFront}
 use Rattle.store.specs.Looks.{IsResident, IsGhost, Lacks, Looks}
 use Rattle.store.proofs.KeepsLaws.{ghost-key, ghost-seat-ghosts, seat-queue, becomes-then}
 use Rattle.ghost_list.specs.declared.Given.{Given as Given·}
-use Rattle.ghost_list.specs.declared.Given.the-variants.{Key as Key·, Nothing}
+use Rattle.ghost_list.specs.declared.Given.the-variants.{Key, Nothing}
 use Rattle.ghost_list.specs.Ghosts.{givenOf, Gave, Recorded, Lost, Made, Trimmed, Took, Emptied, RecordedTail}
 
 -- an entry of a queue counts
@@ -55,13 +55,13 @@ lost-none {z} {s} k e h =
     let w = lru-none (stateIn z s .ghosts) (nil (stateIn z s .ghosts) (sym e ∙ h)) in
     record { gave = record { becomes = rw w (same-ghosts z s k); back = rw w } }
 
-pub lost-last : {z : Shape} {s s′ : List ℕ} {x : ℕ} → Oldest z s x → {k : ℕ} → GetsField z s Key x k → GhostRemoved z s s′ x → (g : GuestBlock) → g .0 ≡ k → Lost z s s′ (Key· g)
-lost-last {z} {s} {s′} {x} o {k} r m g e =
+pub lost-last : {z : Shape} {s s′ : List ℕ} {x : ℕ} → Oldest z s x → {k : GuestBlock} → GetsGhost z s x k → GhostRemoved z s s′ x → Lost z s s′ (Key k)
+lost-last {z} {s} {s′} {x} o {k} r m =
     let w : evictLru (stateIn z s .ghosts) ≡ record { ghosts = o .before; back = some (o .key) } =
     ap evictLru (ghost-seat-ghosts z s (o .seat)) ∙ lru-last (o .before) (o .key) in
     let c = m .of (o .before) (o .key) [] (o .seat) in
     record {
-      gave = record { becomes = rw (w, ← append-nil (o .before)) c; back = rw w (ap some (e ∙ ghost-key (o .seat) r)) };
+      gave = record { becomes = rw (w, ← append-nil (o .before)) c; back = rw w (ap some (ghost-key (o .seat) r)) };
     }
 
 -- ---- remove
@@ -140,10 +140,10 @@ module _ {z : Shape} {s : List ℕ} (k : ℕ) where
     by-test true e = record-room (stateIn z s .limits .ghostLimit) k (stateIn z s .ghosts) (ltb-true _ _ e) missing-is
     by-test false e = record-full (stateIn z s .limits .ghostLimit) k (stateIn z s .ghosts) some (ltb-false _ _ e) missing-is
 
-    pub recorded-new : {s′ : List ℕ} → Becomes z s₁ s′ (setGhosts (k ∷ stateIn z s₁ .ghosts) (stateIn z s₁)) → Recorded z s s′ k r
+    pub recorded-new : {s′ : List ℕ} → PushedFront z s₁ s′ k → Recorded z s s′ k r
     recorded-new b =
         recorded _ (by-test (ltb (length (stateIn z s .ghosts)) (stateIn z s .limits .ghostLimit)) refl)
-        (record { becomes = becomes-then (g .gave .becomes) (rw (g .gave .becomes .state) at b); back = g .gave .back })
+        (record { becomes = becomes-then (g .gave .becomes) (rw (g .gave .becomes .state) at (b .becomes)); back = g .gave .back })
 
 -- ---- make_room and trim
 
@@ -195,7 +195,7 @@ module _ {z : Shape} {s s₁ s₂ : List ℕ} {x : ℕ} (h : Held z s) (m : Deta
 pub record Clearing (z : Shape) (s₀ s : List ℕ) : Type 0 where
   pub keeps : Keeps z s
   pub state : setGhosts [] (stateIn z s) ≡ setGhosts [] (stateIn z s₀)
-  pub rest : cols z s Rest ≡ cols z s₀ Rest
+  pub rest : restIn z s ≡ restIn z s₀
   pub same : length s ≡ length s₀
 
 pub ghostsLeft : Shape → List ℕ → ℕ

@@ -7,10 +7,10 @@ ghost use Rattle.store.specs.Holds.{stateIn, Keeps, Held};
 ghost use Rattle.store.specs.Seats.{Tail};
 ghost use Rattle.store.specs.Looks.{Lacks};
 ghost use Rattle.ghost_list.specs.Ghosts.{Recorded, Took, Lost, Made, Trimmed, Emptied, RecordedTail};
-use nodes::Shape;
 use rules::GuestBlock;
-use store::QueueKind;
 use store::Lookup;
+use store::QueueKind;
+use store::Shape;
 
 // What a call gives back: the key that it dropped, or nothing.
 pub enum Given {
@@ -27,9 +27,9 @@ pub fn evict_lru(s: &mut [u8], z: Shape) -> Given
         return Given::Nothing;
     }
     let x = store::oldest_of(s, z);
-    let k = nodes::key_of(s, z, x);
+    let k = store::ghost_at(s, z, x);
     store::remove_ghost(s, z, x);
-    Given::Key(GuestBlock(k))
+    Given::Key(k)
 }
 
 // Takes a key off the ghosts, and says whether it was there.
@@ -37,8 +37,8 @@ pub fn remove(s: &mut [u8], z: Shape, k: GuestBlock) -> bool
     requires { ⌜ Held z (now s) ⌝ }
     ensures { λ r. ⌜ Took z (now (s .entry)) (now (s .exit)) (k .0) r ⌝ }
 {
-    let spot = store::look(s, z, k.0);
-    match spot {
+    let found = store::look(s, z, k);
+    match found {
         Lookup::Ghost(x) => {
             store::remove_ghost(s, z, x);
             true
@@ -65,7 +65,7 @@ fn record_new(s: &mut [u8], z: Shape, k: GuestBlock) -> Given
     ensures { λ r. ⌜ Recorded z (now (s .entry)) (now (s .exit)) (k .0) r ⌝ }
 {
     let given = make_room(s, z);
-    store::push_front(s, z, k.0);
+    store::push_front(s, z, k);
     given
 }
 
@@ -77,8 +77,8 @@ pub fn record(s: &mut [u8], z: Shape, k: GuestBlock) -> Given
     if store::ghost_limit_of(s, z) == 0 {
         return Given::Nothing;
     }
-    let spot = store::look(s, z, k.0);
-    match spot {
+    let found = store::look(s, z, k);
+    match found {
         Lookup::Ghost(x) => {
             store::move_to_front(s, z, x);
             Given::Nothing

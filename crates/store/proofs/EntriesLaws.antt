@@ -5,11 +5,9 @@ use mathlib.Core.Bool.{true}
 use mathlib.Core.List.{List}
 use Prim.Native.Nat.{ℕ, _<_}
 use native.Mathlib.Omega.{arith}
-use native.Mathlib.Decide.{ℕ-discrete}
 use lib.Dec.{eqb}
-use borrow.Author.Tests.{eq-eqb, ne-eqb}
 use Rattle.cells.specs.Decides.{Decides}
-use Rattle.cells.proofs.DecidesLaws.{accept, refuse}
+use Rattle.cells.proofs.DecidesLaws.{accept, decides-eq}
 use Rattle.nodes.specs.Nodes.{Key, Value, Queue as Tag, Freq, GetsField}
 use Rattle.nodes.specs.declared.Shape.{Shape}
 use Rattle.rules.specs.State.{Queue, Small, Main}
@@ -29,12 +27,8 @@ module _ {z : Shape} {s : List ℕ} {x : ℕ} where
     names-small e = accept (record { queue = Small; names = sym (g .value) ∙ e })
 
     pub names-main : (t ≡ listNo Small → ⊥) → Decides (HoldsResident z s x) (eqb t (listNo Main))
-    names-main n = by (ℕ-discrete t (listNo Main))
+    names-main n = decides-eq t (listNo Main) (λ e. record { queue = Main; names = sym (g .value) ∙ e }) (λ h. is-main (h .queue) (g .value ∙ h .names))
       where
-        neither : (t ≡ listNo Main → ⊥) → (q : Queue) → t ≡ listNo q → ⊥
-        neither m Small e = n e
-        neither m Main e = m e
-
-        by : Dec (t ≡ listNo Main) → Decides (HoldsResident z s x) (eqb t (listNo Main))
-        by (yes e) = rw (eq-eqb t (listNo Main) e) (accept (record { queue = Main; names = sym (g .value) ∙ e }))
-        by (no m) = rw (ne-eqb t (listNo Main) m) (refuse (λ h. neither m (h .queue) (g .value ∙ h .names)))
+        is-main : (q : Queue) → t ≡ listNo q → t ≡ listNo Main
+        is-main Small e = absurd (n e)
+        is-main Main e = e

@@ -112,8 +112,8 @@ module _ {z : Shape} {s : List ℕ} (k : Keeps z s) where
   ghost-among : {x : ℕ} {b : List ℕ} {g : ℕ} {a : List ℕ} → GhostSeat z s x b g a → Among x (listsOf z (cols z s) ghostsNo)
   ghost-among h = record { front = h .front; back = h .back; is = h .is }
 
-  pub ghost-node : {x : ℕ} → GhostSeated z s x → x < z .room + 4
-  ghost-node h = omega (arith, pooled-node (k .pooled) ghost-kind (ghost-among (h .seat)))
+  pub ghost-node : {x : ℕ} → GhostSeated z s x → x < z .room
+  ghost-node h = pooled-node (k .pooled) ghost-kind (ghost-among (h .seat))
 
   pub ghost-release : {x : ℕ} → GhostSeated z s x → CanRelease z s ghostsNo x
   ghost-release h = record { pooled = k .pooled; from = ghost-kind; among = ghost-among (h .seat) }

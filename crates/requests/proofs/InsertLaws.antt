@@ -18,7 +18,7 @@ use Rattle.rules.proofs.SoundLaws.{Lessened, kept-sound, roomy-law, roomy-kept,
 use Rattle.store.specs.declared.Lookup.{Lookup}
 use Rattle.store.specs.declared.Lookup.the-variants.{Ghost, Absent}
 use Rattle.store.specs.Holds.{stateIn, Held, Becomes}
-use Rattle.store.specs.Seats.{GhostRemoved, CanAttachHead}
+use Rattle.store.specs.Seats.{GhostRemoved, CanAttachHead, AttachedHead}
 use Rattle.store.specs.Looks.{Looks, Lacks}
 use Rattle.store.proofs.KeepsLaws.{becomes-then}
 use Rattle.wire.specs.declared.Reply.the-variants.{New}
@@ -60,12 +60,12 @@ module _ {z : Shape} {s s₁ : List ℕ} {w : Evicted·} (h : Held z s) (m : Mak
       }
 
 -- and the pair goes in
-pub arrived : {z : Shape} {s s₁ s₂ : List ℕ} {w : Evicted·} → Makes z s s₁ (evictIfFull (stateIn z s)) w → (q : Queue) (k v : ℕ) → Becomes z s₁ s₂ (pushTo q (fresh k v) (stateIn z s₁))
+pub arrived : {z : Shape} {s s₁ s₂ : List ℕ} {w : Evicted·} → Makes z s s₁ (evictIfFull (stateIn z s)) w → {q : Queue} {k v : ℕ} → AttachedHead z s₁ s₂ q k v
     → (a : Spoken) → a .pushed ≡ w .pushed → a .closing ≡ New (w .pops) → Arrives z s s₂ q k v a
-arrived {z} {s} m q k v b a e c =
+arrived m b a e c =
     record {
       comes = record {
-        becomes = becomes-then (m .becomes) (rw (m .becomes .state) at b);
+        becomes = becomes-then (m .becomes) (rw (m .becomes .state) at (b .becomes));
         replies = ap₂ (λ p r. pushedOf p ++ (told r ∷ [])) e c ∙ ap₂ (λ l n. l ++ (NW n ∷ [])) (m .told) (m .pops);
       };
     }

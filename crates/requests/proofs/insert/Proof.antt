@@ -2,7 +2,7 @@
 -- Assumes nothing.
 use borrow.Author.Needs.{needs}
 use Rattle.store.proofs.LookLaws.{looks-ghost-seated, looks-lacks}
-use Rattle.requests.proofs.KeyLaws.{resident-node, resident-reach, insert-over}
+use Rattle.requests.proofs.KeyLaws.{resident-node, insert-over}
 use Rattle.requests.proofs.InsertLaws.{removed-held, removed-lacks, insert-ghost, insert-absent}
 use Rattle.requests.proofs.insert.Statement.{statement}
 use Rattle.requests.proofs.insert.Tie as tie
@@ -13,8 +13,7 @@ insert-spec =
     (tie.spec
     (λ c κs. search needs)
     (λ c. search needs)
-    (λ c κs. (search needs, search resident-reach))
-    (λ c κs. (search needs, search resident-reach))
+    (λ c κs. (search needs, search resident-node))
     (λ c κs. search needs)
     (λ c κs. (search needs, search resident-node, search needs))
     (λ c κs. search needs)

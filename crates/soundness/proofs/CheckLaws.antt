@@ -22,11 +22,11 @@ use Rattle.store.specs.declared.Entry.{Entry as Entry·}
 use Rattle.store.specs.Holds.{entryAt, limitsIn, stateIn, shapeFor, Keeps, Held, Holds}
 use Rattle.store.specs.Entries.{GetsEntry, HoldsResident}
 use Rattle.store.specs.Created.{Stated}
+use Rattle.store.proofs.PooledLaws.{pooled-places, bytes-narrow, nodes-cool, cool-nodes}
 use Rattle.store.proofs.HoldsLaws.{limits-shown, holds-limits, holds-held, room-for}
 use Rattle.soundness.specs.declared.Checked.{Checked}
 use Rattle.soundness.specs.declared.Checked.the-variants.{Sound as Sound·, Damaged}
 use Rattle.soundness.specs.Checks.{Shaped, Few, Cool, Checks}
-use Rattle.soundness.proofs.SoundLaws.{pooled-places, bytes-narrow, nodes-cool, cool-nodes}
 
 -- a test of the order of two numbers decides what comes to it
 decides-le : {P : Type 0} (a b : ℕ) → (a ≤ b → P) → (P → a ≤ b) → Decides P (leb a b)
@@ -105,8 +105,11 @@ module _ {z : Shape} {s : List ℕ} where
 
       module _ {q : Bool} (g : Decides (Few (stateIn z s)) q) where
         pub all-decide : Bytes s → Room z s → not q ≡ false → {r : Bool} → Decides (All (Cool z s) (z .room)) r → Decides (Held z s) r
-        all-decide b r i = decides-map to (λ k. cool-nodes z s (k .keeps .pooled) (k .sound .cool-enough))
+        all-decide b r i = decides-map to from
           where
+            from : Held z s → All (Cool z s) (z .room)
+            from k = record { all = λ y l. record { cool = cool-nodes z s (k .keeps .pooled) (k .sound .cool-enough) y l } }
+
             to : All (Cool z s) (z .room) → Held z s
             to a =
                 let k : Keeps z s = pool-keeps r in
@@ -117,7 +120,7 @@ module _ {z : Shape} {s : List ℕ} where
                     fine = subst Fine (sym (limits-shown z s)) (h .fine);
                     within = w .within;
                     once = pooled-places z s (k .pooled);
-                    cool-enough = nodes-cool z s (k .pooled) a;
+                    cool-enough = nodes-cool z s (k .pooled) (λ y l. a .all y l .cool);
                     few-ghosts = w .few-ghosts;
                     narrow = bytes-narrow z s b;
                   };

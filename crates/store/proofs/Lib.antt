@@ -5,3 +5,4 @@ pub mod LookLaws
 pub mod KeepsLaws
 pub mod HoldsLaws
 pub mod CreatedLaws
+pub mod PooledLaws

@@ -1,2 +1,3 @@
+pub mod PopLaws
 pub mod StepLaws
 pub mod LoopLaws

@@ -10,7 +10,6 @@ use lib.ListN.{length}
 use borrow.Author.Tests.{le-leb, lt-leb}
 use mir.Syntax.{w64}
 use mir.Val.{Fits}
-use Rattle.nodes.specs.Nodes.{Rest, cols}
 use Rattle.nodes.specs.declared.Shape.{Shape}
 use Rattle.rules.specs.declared.GuestBlock.{GuestBlock}
 use Rattle.rules.specs.declared.PhysicalBlock.{PhysicalBlock}
@@ -22,7 +21,7 @@ use Rattle.rules.proofs.EvictionLaws.{Moves, step-law, moves-total, moves-colde
 use Rattle.rules.proofs.SoundLaws.{warmth-most}
 use Rattle.store.specs.declared.QueueKind.{QueueKind}
 use Rattle.store.specs.declared.QueueKind.the-variants.{Small as Small·, Main as Main·}
-use Rattle.store.specs.Holds.{stateIn, Held, Becomes}
+use Rattle.store.specs.Holds.{stateIn, restIn, Held, Becomes}
 use Rattle.store.specs.Seats.{queueKind}
 use Rattle.evict.specs.declared.Turn.{Turn as Turn·}
 use Rattle.evict.specs.declared.Turn.the-variants.{Moved, Left}
@@ -37,7 +36,7 @@ pub record Going (z : Shape) (s₀ s : List ℕ) (n : ℕ) : Type 0 where
   pub some : 1 ≤ residents (stateIn z s)
   pub on : evict (stateIn z s₀) ≡ after n (evict (stateIn z s))
   pub few : n + warmth (stateIn z s) ≤ maxFreq * most
-  pub rest : cols z s Rest ≡ cols z s₀ Rest
+  pub rest : restIn z s ≡ restIn z s₀
   pub same : length s ≡ length s₀
 
 -- F of the state that a store holds: what falls

@@ -8,7 +8,6 @@ use native.Mathlib.Omega.{arith}
 use lib.Dec.{ltb}
 use lib.ListN.{length}
 use borrow.Author.Tests.{lt-ltb, le-ltb}
-use Rattle.nodes.specs.Nodes.{Key, Value, Freq, GetsField}
 use Rattle.nodes.specs.declared.Shape.{Shape}
 use Rattle.rules.specs.declared.GuestBlock.{GuestBlock}
 use Rattle.rules.specs.declared.PhysicalBlock.{PhysicalBlock}
@@ -21,13 +20,14 @@ use Rattle.rules.proofs.SoundLaws.{moved-sound, left-sound}
 use Rattle.store.specs.declared.QueueKind.{QueueKind}
 use Rattle.store.specs.declared.QueueKind.the-variants.{Small as Small·, Main as Main·}
 use Rattle.store.specs.Holds.{stateIn, Keeps, Held, Becomes}
-use Rattle.store.specs.Seats.{queueKind, Seat, Seated, Tail, Freed, SentBack}
-use Rattle.store.proofs.KeepsLaws.{seat-key, seat-value, seat-freq, seat-queue, seat-node}
+use Rattle.store.specs.Seats.{queueKind, Seat, Seated, Tail, EntryRemoved}
 use Rattle.store.proofs.LookLaws.{tail-seated}
-use Rattle.ghost_list.specs.Ghosts.{Buries}
-use Rattle.evict.specs.declared.Turn.{Turn as Turn·}
+use Rattle.ghost_list.specs.Ghosts.{RecordedTail}
+use Rattle.evict.specs.declared.Popped.{Popped}
+use Rattle.evict.specs.declared.Popped.the-variants.{Back, Cold}
 use Rattle.evict.specs.declared.Turn.the-variants.{Moved, Left}
-use Rattle.evict.specs.Evicts.{coolTo, turnOf, Picks, Steps, Leaves}
+use Rattle.evict.specs.Evicts.{Picks, PopsTail, Steps, Leaves}
+use Rattle.evict.proofs.PopLaws.{cold-wanted}
 
 -- ---- the queue that is popped
 
@@ -52,10 +52,10 @@ picks-some {z} {s} {q} p h = some-length (queueOf q (stateIn z s)) (λ n. let y 
 
 -- ---- what leaves
 
-pub leaves-small : {z : Shape} {s s′ : List ℕ} {x : ℕ} (q : QueueKind) → q ≡ Small· → Buries z s s′ x → Leaves z s s′ (queueKind q) x
+pub leaves-small : {z : Shape} {s s′ : List ℕ} {x : ℕ} (q : QueueKind) → q ≡ Small· → RecordedTail z s s′ x → Leaves z s s′ (queueKind q) x
 leaves-small q e m = rw e (record { of = m .of })
 
-pub leaves-main : {z : Shape} {s s′ : List ℕ} {x : ℕ} (q : QueueKind) → q ≡ Main· → Freed z s s′ Main x → Leaves z s s′ (queueKind q) x
+pub leaves-main : {z : Shape} {s s′ : List ℕ} {x : ℕ} (q : QueueKind) → q ≡ Main· → EntryRemoved z s s′ Main x → Leaves z s s′ (queueKind q) x
 leaves-main {z} {s} {s′} {x} q e m = rw e (record { of = λ b y t. rw (← append-nil b) (m .of b y [] t) })
 
 -- a tail of a known queue
@@ -67,69 +67,29 @@ seated-main q e t = rw e at (tail-seated t)
 
 -- ---- the step
 
-pub cool-small : (q : QueueKind) (f : ℕ) → q ≡ Small· → 0 ≡ coolTo (queueKind q) f
-cool-small q f e = rw e
-
-pub cool-none : (q : QueueKind) (f : ℕ) → q ≡ Main· → f ≡ 0 → 0 ≡ coolTo (queueKind q) f
-cool-none q f e h = rw (e, h)
-
-pub cool-main : (q : QueueKind) (f : ℕ) → q ≡ Main· → (f ≡ 0 → ⊥) → f - 1 ≡ coolTo (queueKind q) f
-cool-main q f e h = let g : f - 1 ≡ pred f = omega arith in rw e g
-
-cool-is : (q : Queue) (e : Entry) → withFreq (coolTo q (e .freq)) e ≡ cool q e
-cool-is Small e = refl
-cool-is Main e = refl
-
-pub tail-node : {z : Shape} {s : List ℕ} → Held z s → {q : Queue} {x : ℕ} → Tail z s q x → x < z .room + 4
-tail-node h t = omega (arith, seat-node (h .keeps) (t .seat))
-
--- an entry that was sent back with its frequency cooled went back as the rules say
-pub went-back : {z : Shape} {s s′ : List ℕ} {q : Queue} {x f : ℕ} (t : Tail z s q x) → GetsField z s Freq x f → SentBack z s s′ q x (coolTo q f) → Becomes z s s′ (back q (t .before) (t .entry) (stateIn z s))
-went-back {z} {s} {s′} {q} {x} {f} t g b =
-    let e : Entry = t .entry in
-    let σ : State = stateIn z s in
-    let r = b .of (t .before) e [] (t .seat) in
-    record {
-      keeps = r .keeps;
-      state = r .state
-          ∙ ap₂ (λ (y : Entry) (l : List Entry). pushTo Main y (setQueue q l σ)) (ap (λ (y : ℕ). withFreq (coolTo q y) e) (seat-freq (t .seat) g) ∙ cool-is q e) (append-nil (t .before));
-      rest = r .rest;
-    }
-
-module _ {z : Shape} {s : List ℕ} (h : Held z s) (q : QueueKind) (v : Picks z s (queueKind q)) {x : ℕ} (t : Tail z s (queueKind q) x) {f : ℕ} (g : GetsField z s Freq x f) where
-  freq-is : f ≡ t .entry .freq
-  freq-is = seat-freq (t .seat) g
-
-  pub steps-moved : 0 < f → {s′ : List ℕ} → SentBack z s s′ (queueKind q) x (coolTo (queueKind q) f) → Steps z s s′ (Moved q)
-  steps-moved w {s′} b =
-      let e : Entry = t .entry in
+module _ {z : Shape} {s : List ℕ} (h : Held z s) (q : QueueKind) (v : Picks z s (queueKind q)) {s₁ : List ℕ} {r : Popped} (p : PopsTail z s s₁ (queueKind q) r) where
+  pub steps-moved : r ≡ Back → Steps z s s₁ (Moved q)
+  steps-moved e =
       let σ : State = stateIn z s in
-      let n : step σ ≡ moved (queueKind q) (back (queueKind q) (t .before) e σ) =
-      step-moves σ (queueKind q) (t .before) e (v .picked) (seat-queue z s (t .seat)) (lt-ltb 0 (e .freq) (omega (arith, freq-is))) in
-      let r = went-back t g b in
+      let w = p .went e in
+      let n : step σ ≡ moved (queueKind q) (back (queueKind q) (p .before) (p .entry) σ) =
+      step-moves σ (queueKind q) (p .before) (p .entry) (v .picked) (p .tail-is) (w .warm) in
       record {
-        held = record { keeps = r .keeps; sound = rw (r .state) (moved-sound n (h .sound)) };
-        turn = n ∙ ap (moved (queueKind q)) (sym (r .state));
-        rest = r .rest;
+        held = record { keeps = w .becomes .keeps; sound = rw (w .becomes .state) (moved-sound n (h .sound)) };
+        turn = n ∙ ap (moved (queueKind q)) (sym (w .becomes .state));
+        rest = w .becomes .rest;
       }
 
-  pub steps-left : f ≤ 0 → {a b : ℕ} → GetsField z s Key x a → GetsField z s Value x b → {s′ : List ℕ} → Leaves z s s′ (queueKind q) x
-      → (k : GuestBlock) → k .0 ≡ a → (p : PhysicalBlock) → p .0 ≡ b → Steps z s s′ (Left q k p)
-  steps-left w {a} {b} ra rb {s′} m k ek p ep =
-      let e : Entry = t .entry in
+  pub steps-left : {x : ℕ} {k : GuestBlock} {u : PhysicalBlock} → r ≡ Cold x k u → {s₂ : List ℕ} → Leaves z s₁ s₂ (queueKind q) x → Steps z s s₂ (Left q k u)
+  steps-left {x} {k} {u} e {s₂} m₀ =
       let σ : State = stateIn z s in
-      let n : step σ ≡ left (queueKind q) e (ghosted (queueKind q) e (setQueue (queueKind q) (t .before) σ)) =
-      step-leaves σ (queueKind q) (t .before) e (v .picked) (seat-queue z s (t .seat)) (le-ltb 0 (e .freq) (omega (arith, freq-is))) in
-      let r = m .of (t .before) e (t .seat) in
-      let zero-freq : e .freq ≡ 0 = omega (arith, freq-is) in
-      let key : e .key ≡ k .0 = sym (ek ∙ seat-key (t .seat) ra) in
-      let value : e .value ≡ p .0 = sym (ep ∙ seat-value (t .seat) rb) in
-      let pair : e ≡ fresh (k .0) (p .0) = (λ i. record { key = key i; value = value i; freq = zero-freq i }) in
+      let c = p .stays x k u e in
+      let m : Leaves z s s₂ (queueKind q) x = rw (c .same) at m₀ in
+      let n : step σ ≡ left (queueKind q) (p .entry) (ghosted (queueKind q) (p .entry) (setQueue (queueKind q) (p .before) σ)) =
+      step-leaves σ (queueKind q) (p .before) (p .entry) (v .picked) (p .tail-is) (cold-wanted p e) in
+      let b = m .of (p .before) (p .entry) (c .seat) in
       record {
-        held = record { keeps = r .keeps; sound = rw (r .state) (left-sound n (h .sound)) };
-        turn = n ∙ ap₂ (left (queueKind q)) pair (sym (r .state));
-        rest = r .rest;
+        held = record { keeps = b .keeps; sound = rw (b .state) (left-sound n (h .sound)) };
+        turn = n ∙ ap₂ (left (queueKind q)) (c .pair) (sym (b .state));
+        rest = b .rest;
       }
-
-pub back-cooled : {z : Shape} {s s′ : List ℕ} (q : QueueKind) (f : ℕ) {x m : ℕ} → m ≡ coolTo (queueKind q) f → SentBack z s s′ (queueKind q) x m → SentBack z s s′ (queueKind q) x (coolTo (queueKind q) f)
-back-cooled q f e b = rw e at b

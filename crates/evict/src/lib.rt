@@ -1,20 +1,27 @@
-// Eviction on the store (01, "Eviction"; port order 7): one step, and steps until a pair has left. The pops are counted by walking.
+// Eviction on the store (01, "Eviction"; port order 7): the pop of a queue's tail, one step, and steps until a pair has left. The pops are counted by
+// walking.
 ghost use mathlib.Core.Path.{_≡_};
 ghost use Prim.Native.Nat.{_≤_, _<_};
 ghost use lib.ListN.{length};
 ghost use mathlib.Core.List.{[], _∷_};
-ghost use Rattle.rules.specs.State.{fresh, residents};
+ghost use Rattle.rules.specs.State.{fresh, queueOf, residents};
 ghost use Rattle.rules.specs.Eviction.{evict, evictIfFull, tell};
 ghost use Rattle.store.specs.Holds.{stateIn, Held};
-ghost use Rattle.store.specs.Seats.{queueKind, Tail, SentBack};
-ghost use Rattle.evict.specs.Evicts.{coolTo, pushedOf, Picks, Steps, Makes, Leaves};
-use nodes::Shape;
+ghost use Rattle.store.specs.Seats.{queueKind, Tail};
+ghost use Rattle.evict.specs.Evicts.{coolTo, pushedOf, Picks, PopsTail, Steps, Makes, Leaves};
 use rules::GuestBlock;
 use rules::PhysicalBlock;
 use store::QueueKind;
+use store::Shape;
+
+// What a pop finds: the entry went to Main's head, or its frequency is 0, and it is still the tail, at a node, with its pair.
+pub enum Popped {
+    Back,
+    Cold(usize, GuestBlock, PhysicalBlock),
+}
 
 // What a step does: the popped entry went to Main's head, or it left.
-pub enum Turn {
+enum Turn {
     Moved(QueueKind),
     Left(QueueKind, GuestBlock, PhysicalBlock),
 }
@@ -47,7 +54,7 @@ fn victim(s: &[u8], z: Shape) -> QueueKind
 }
 
 // The frequency of an entry that goes back: 0 from Small, one less from Main.
-pub fn cooled(q: QueueKind, freq: usize) -> usize
+fn cooled(q: QueueKind, freq: usize) -> usize
     requires { ⌜ freq < 256 ⌝ }
     ensures { λ r. ⌜ r ≡ coolTo (queueKind q) freq ⌝ }
     ensures { λ r. ⌜ r < 256 ⌝ }
@@ -63,39 +70,47 @@ pub fn cooled(q: QueueKind, freq: usize) -> usize
     }
 }
 
+// Pops the tail of a queue that is not empty. An entry with a frequency above 0 goes to Main's head, cooled; any other stays where it is, for the
+// caller to take out, with a ghost or without one.
+pub fn pop_tail(s: &mut [u8], z: Shape, q: QueueKind) -> Popped
+    requires { ⌜ Held z (now s) × (1 ≤ length (queueOf (queueKind q) (stateIn z (now s)))) ⌝ }
+    ensures { λ r. ⌜ PopsTail z (now (s .entry)) (now (s .exit)) (queueKind q) r ⌝ }
+{
+    let x = store::tail_of(s, z, q);
+    let entry = store::entry_at(s, z, x);
+    if 0 < entry.freq {
+        store::reattach_main_head(s, z, q, x, cooled(q, entry.freq));
+        return Popped::Back;
+    }
+    let key = entry.key;
+    let value = entry.value;
+    Popped::Cold(x, key, value)
+}
+
 // The last entry of a queue leaves; what leaves Small becomes a ghost.
 fn leave(s: &mut [u8], z: Shape, q: QueueKind, x: usize)
     requires { ⌜ Held z (now s) × Tail z (now s) (queueKind q) x ⌝ }
     ensures { λ _. ⌜ Leaves z (now (s .entry)) (now (s .exit)) (queueKind q) x ⌝ }
 {
     match q {
-        QueueKind::Small => ghost_list::bury(s, z, x),
-        QueueKind::Main => store::release(s, z, QueueKind::Main, x),
+        QueueKind::Small => ghost_list::record_tail(s, z, x),
+        QueueKind::Main => store::remove_at(s, z, QueueKind::Main, x),
     }
 }
 
-// An entry goes to Main's head with its frequency cooled.
-pub fn go_back(s: &mut [u8], z: Shape, q: QueueKind, x: usize, freq: usize)
-    requires { ⌜ Held z (now s) × Tail z (now s) (queueKind q) x × (freq < 256) ⌝ }
-    ensures { λ _. ⌜ SentBack z (now (s .entry)) (now (s .exit)) (queueKind q) x (coolTo (queueKind q) freq) ⌝ }
-{
-    store::send_back(s, z, q, x, cooled(q, freq));
-}
-
-// The tail that was picked goes back or leaves, by its frequency.
-fn settle(s: &mut [u8], z: Shape, q: QueueKind, x: usize) -> Turn
-    requires { ⌜ Held z (now s) × Picks z (now s) (queueKind q) × Tail z (now s) (queueKind q) x ⌝ }
+// The tail of the queue that was picked goes to Main's head or leaves.
+fn try_evict_from_queue(s: &mut [u8], z: Shape, q: QueueKind) -> Turn
+    requires { ⌜ Held z (now s) × Picks z (now s) (queueKind q) × (1 ≤ length (queueOf (queueKind q) (stateIn z (now s)))) ⌝ }
     ensures { λ r. ⌜ Steps z (now (s .entry)) (now (s .exit)) r ⌝ }
 {
-    let freq = nodes::freq_of(s, z, x);
-    if 0 < freq {
-        go_back(s, z, q, x, freq);
-        return Turn::Moved(q);
+    let popped = pop_tail(s, z, q);
+    match popped {
+        Popped::Back => Turn::Moved(q),
+        Popped::Cold(x, k, v) => {
+            leave(s, z, q, x);
+            Turn::Left(q, k, v)
+        }
     }
-    let k = nodes::key_of(s, z, x);
-    let v = nodes::value_of(s, z, x);
-    leave(s, z, q, x);
-    Turn::Left(q, GuestBlock(k), PhysicalBlock(v))
 }
 
 // One step of the rule, on a cache that is not empty.
@@ -104,8 +119,7 @@ fn step(s: &mut [u8], z: Shape) -> Turn
     ensures { λ r. ⌜ Steps z (now (s .entry)) (now (s .exit)) r ⌝ }
 {
     let q = victim(s, z);
-    let x = store::tail_of(s, z, q);
-    settle(s, z, q, x)
+    try_evict_from_queue(s, z, q)
 }
 
 fn pushed_from(q: QueueKind, k: GuestBlock, v: PhysicalBlock) -> Pushed
@@ -118,7 +132,7 @@ fn pushed_from(q: QueueKind, k: GuestBlock, v: PhysicalBlock) -> Pushed
 }
 
 // Steps until a pair has left. Each step that moves an entry lowers the sum of frequencies, so the loop ends.
-pub fn evict(s: &mut [u8], z: Shape) -> Evicted
+fn evict(s: &mut [u8], z: Shape) -> Evicted
     requires { ⌜ Held z (now s) × (1 ≤ residents (stateIn z (now s))) ⌝ }
     ensures { λ r. ⌜ Makes z (now (s .entry)) (now (s .exit)) (evict (stateIn z (now (s .entry)))) r ⌝ }
 {
@@ -146,7 +160,7 @@ fn residents_of(s: &[u8], z: Shape) -> u64
 }
 
 // Eviction where the cache is full; otherwise nothing.
-pub fn evict_if_full(s: &mut [u8], z: Shape) -> Evicted
+pub fn evict_if_needed(s: &mut [u8], z: Shape) -> Evicted
     requires { ⌜ Held z (now s) ⌝ }
     ensures { λ r. ⌜ Makes z (now (s .entry)) (now (s .exit)) (evictIfFull (stateIn z (now (s .entry)))) r ⌝ }
 {

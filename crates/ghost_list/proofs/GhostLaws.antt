@@ -9,7 +9,6 @@ use native.Mathlib.Omega.{arith}
 use lib.Dec.{eqb, ltb}
 use lib.ListN.{length}
 use borrow.Author.Tests.{eq-eqb, lt-ltb, le-ltb, ltb-true, ltb-false}
-use Rattle.nodes.specs.Nodes.{Key, Rest, cols, GetsField}
 use Rattle.nodes.specs.declared.Shape.{Shape}
 use Rattle.rules.specs.declared.GuestBlock.{GuestBlock}
 use Rattle.rules.specs.Parts.{bit, total, Pop, popped, popTail, Split, missing, found, splitBy}
@@ -20,16 +19,17 @@ use Rattle.rules.proofs.PartsLaws.{nil}
 use Rattle.rules.proofs.StateLaws.{put-total}
 use Rattle.rules.proofs.GhostsLaws.{lru-total, lru-less, record-zero, record-there, record-room, record-full, record-over}
 use Rattle.rules.proofs.EngineLaws.{pop-is, split-none}
-use Rattle.store.specs.Holds.{stateIn, Keeps, Held, Becomes}
+use Rattle.store.specs.Holds.{stateIn, restIn, Keeps, Held, Becomes}
+use Rattle.store.specs.Entries.{GetsGhost}
 use Rattle.store.specs.declared.QueueKind.{QueueKind}
-use Rattle.store.specs.declared.Spot.{Spot}
-use Rattle.store.specs.declared.Spot.the-variants.{Resident, Ghost, Absent}
-use Rattle.store.specs.Seats.{queueKind, Seat, Tail, Grave, Buried, Oldest, Laid, Exhumed, Fronted, CanHaunt}
-use Rattle.store.specs.Looks.{Sits, Haunts, Lacks, Looks}
-use Rattle.store.proofs.KeepsLaws.{grave-key, grave-ghosts, seat-queue, becomes-then}
+use Rattle.store.specs.declared.Lookup.{Lookup}
+use Rattle.store.specs.declared.Lookup.the-variants.{Resident, Ghost, Absent}
+use Rattle.store.specs.Seats.{queueKind, Seat, Tail, GhostSeat, GhostSeated, Oldest, DetachedToGhosts, GhostRemoved, Fronted, CanPushFront, PushedFront}
+use Rattle.store.specs.Looks.{IsResident, IsGhost, Lacks, Looks}
+use Rattle.store.proofs.KeepsLaws.{ghost-key, ghost-seat-ghosts, seat-queue, becomes-then}
 use Rattle.ghost_list.specs.declared.Given.{Given as Given·}
-use Rattle.ghost_list.specs.declared.Given.the-variants.{Key as Key·, Nothing}
-use Rattle.ghost_list.specs.Ghosts.{givenOf, Gave, Recorded, Lost, Made, Trimmed, Took, Emptied, Buries}
+use Rattle.ghost_list.specs.declared.Given.the-variants.{Key, Nothing}
+use Rattle.ghost_list.specs.Ghosts.{givenOf, Gave, Recorded, Lost, Made, Trimmed, Took, Emptied, RecordedTail}
 
 -- an entry of a queue counts
 in-queue : (q : Queue) (σ : State) (b : List Entry) (e : Entry) (a : List Entry) → queueOf q σ ≡ b ++ (e ∷ a) → (f : Entry → ℕ) → f e ≤ overAll f σ
@@ -55,24 +55,24 @@ lost-none {z} {s} k e h =
     let w = lru-none (stateIn z s .ghosts) (nil (stateIn z s .ghosts) (sym e ∙ h)) in
     record { gave = record { becomes = rw w (same-ghosts z s k); back = rw w } }
 
-pub lost-last : {z : Shape} {s s′ : List ℕ} {x : ℕ} → Oldest z s x → {k : ℕ} → GetsField z s Key x k → Exhumed z s s′ x → (g : GuestBlock) → g .0 ≡ k → Lost z s s′ (Key· g)
-lost-last {z} {s} {s′} {x} o {k} r m g e =
+pub lost-last : {z : Shape} {s s′ : List ℕ} {x : ℕ} → Oldest z s x → {k : GuestBlock} → GetsGhost z s x k → GhostRemoved z s s′ x → Lost z s s′ (Key k)
+lost-last {z} {s} {s′} {x} o {k} r m =
     let w : evictLru (stateIn z s .ghosts) ≡ record { ghosts = o .before; back = some (o .key) } =
-    ap evictLru (grave-ghosts z s (o .grave)) ∙ lru-last (o .before) (o .key) in
-    let c = m .of (o .before) (o .key) [] (o .grave) in
+    ap evictLru (ghost-seat-ghosts z s (o .seat)) ∙ lru-last (o .before) (o .key) in
+    let c = m .of (o .before) (o .key) [] (o .seat) in
     record {
-      gave = record { becomes = rw (w, ← append-nil (o .before)) c; back = rw w (ap some (e ∙ grave-key (o .grave) r)) };
+      gave = record { becomes = rw (w, ← append-nil (o .before)) c; back = rw w (ap some (ghost-key (o .seat) r)) };
     }
 
 -- ---- remove
 
 module _ {z : Shape} {s : List ℕ} {k : ℕ} where
-  pub took-there : {s′ : List ℕ} {r : Spot} → Looks z s k r → {x : ℕ} → r ≡ Ghost x → Exhumed z s s′ x → Took z s s′ k true
+  pub took-there : {s′ : List ℕ} {r : Lookup} → Looks z s k r → {x : ℕ} → r ≡ Ghost x → GhostRemoved z s s′ x → Took z s s′ k true
   unfolding removeGhost
   took-there l {x} e m =
-      let h = l .haunt x e in
+      let h = l .is-ghost x e in
       let w : removeGhost k (stateIn z s .ghosts) ≡ record { ghosts = h .before ++ h .after; was = true } = ap (without (stateIn z s .ghosts)) (h .split-is) in
-      record { becomes = rw w (m .of (h .before) k (h .after) (h .grave)); was = rw w }
+      record { becomes = rw w (m .of (h .before) k (h .after) (h .seat)); was = rw w }
 
   not-there : Keeps z s → total (λ y. bit (eqb k y)) (stateIn z s .ghosts) ≡ 0 → Took z s s k false
   unfolding removeGhost
@@ -81,13 +81,13 @@ module _ {z : Shape} {s : List ℕ} {k : ℕ} where
       record { becomes = rw w (same-ghosts z s p); was = rw w }
 
   -- a resident key is no ghost
-  pub took-resident : Held z s → {r : Spot} → Looks z s k r → {q : QueueKind} {x : ℕ} → r ≡ Resident q x → Took z s s k false
+  pub took-resident : Held z s → {r : Lookup} → Looks z s k r → {q : QueueKind} {x : ℕ} → r ≡ Resident q x → Took z s s k false
   took-resident h l {q} {x} e =
       let t = l .resident q x e in
       let m = in-queue (queueKind q) (stateIn z s) (t .before) (t .entry) (t .after) (seat-queue z s (t .seat)) in
       not-there (h .keeps) (omega (arith, h .sound .once k, m (λ y. bit (keyIs k y)), ap bit (eq-eqb k (t .entry .key) (sym (t .key)))))
 
-  pub took-absent : Held z s → {r : Spot} → Looks z s k r → r ≡ Absent → Took z s s k false
+  pub took-absent : Held z s → {r : Lookup} → Looks z s k r → r ≡ Absent → Took z s s k false
   took-absent h l e = not-there (h .keeps) (omega (arith, l .absent e .none))
 
 -- ---- record
@@ -100,12 +100,12 @@ module _ {z : Shape} {s : List ℕ} (k : ℕ) where
   recorded-zero h e q =
       recorded (keeps (stateIn z s .ghosts)) (record-zero (stateIn z s .limits .ghostLimit) k (stateIn z s .ghosts) (sym e ∙ q)) (record { becomes = same-ghosts z s (h .keeps); back = refl })
 
-  module _ {n : ℕ} (e : n ≡ stateIn z s .limits .ghostLimit) (some : n ≡ 0 → ⊥) {r : Spot} (l : Looks z s k r) where
+  module _ {n : ℕ} (e : n ≡ stateIn z s .limits .ghostLimit) (some : n ≡ 0 → ⊥) {r : Lookup} (l : Looks z s k r) where
     pub recorded-there : {s′ : List ℕ} {x : ℕ} → r ≡ Ghost x → Fronted z s s′ x → Recorded z s s′ k Nothing
     recorded-there {s′} {x} q m =
-        let h = l .haunt x q in
+        let h = l .is-ghost x q in
         recorded (keeps (k ∷ (h .before ++ h .after))) (record-there (stateIn z s .limits .ghostLimit) k (stateIn z s .ghosts) (h .before) k (h .after) (omega arith) (h .split-is))
-        (record { becomes = m .of (h .before) k (h .after) (h .grave); back = refl })
+        (record { becomes = m .of (h .before) k (h .after) (h .seat); back = refl })
 
     -- a key that is resident is not recorded
     pub not-resident : keyed k (stateIn z s) ≡ 0 → {q : QueueKind} {x : ℕ} → r ≡ Resident q x → Recorded z s s k Nothing
@@ -125,8 +125,8 @@ module _ {z : Shape} {s : List ℕ} (k : ℕ) where
     room-for true e = (omega (arith, lack .none), omega (arith, ltb-true))
     room-for false e = (omega (arith, lack .none, lru-total (λ y. bit (eqb k y)) (stateIn z s .ghosts)), omega (arith, lru-less (stateIn z s .ghosts), h .sound .few-ghosts))
 
-    pub can-haunt : CanHaunt z s₁ k
-    can-haunt =
+    pub can-push : CanPushFront z s₁ k
+    can-push =
         let w = g .gave .becomes .state in
         let f = room-for (ltb (length (stateIn z s .ghosts)) (stateIn z s .limits .ghostLimit)) refl in
         record {
@@ -140,10 +140,10 @@ module _ {z : Shape} {s : List ℕ} (k : ℕ) where
     by-test true e = record-room (stateIn z s .limits .ghostLimit) k (stateIn z s .ghosts) (ltb-true _ _ e) missing-is
     by-test false e = record-full (stateIn z s .limits .ghostLimit) k (stateIn z s .ghosts) some (ltb-false _ _ e) missing-is
 
-    pub recorded-new : {s′ : List ℕ} → Becomes z s₁ s′ (setGhosts (k ∷ stateIn z s₁ .ghosts) (stateIn z s₁)) → Recorded z s s′ k r
+    pub recorded-new : {s′ : List ℕ} → PushedFront z s₁ s′ k → Recorded z s s′ k r
     recorded-new b =
         recorded _ (by-test (ltb (length (stateIn z s .ghosts)) (stateIn z s .limits .ghostLimit)) refl)
-        (record { becomes = becomes-then (g .gave .becomes) (rw (g .gave .becomes .state) at b); back = g .gave .back })
+        (record { becomes = becomes-then (g .gave .becomes) (rw (g .gave .becomes .state) at (b .becomes)); back = g .gave .back })
 
 -- ---- make_room and trim
 
@@ -162,8 +162,8 @@ module _ {z : Shape} {s : List ℕ} {n m : ℕ} (e : n ≡ length (stateIn z s .
 
 -- ---- bury
 
-pub laid-keeps : {z : Shape} {s s₁ : List ℕ} {x : ℕ} → Tail z s Small x → Laid z s s₁ Small x → Keeps z s₁
-laid-keeps t m = m .of (t .before) (t .entry) [] (t .seat) .keeps
+pub detached-keeps : {z : Shape} {s s₁ : List ℕ} {x : ℕ} → Tail z s Small x → DetachedToGhosts z s s₁ Small x → Keeps z s₁
+detached-keeps t m = m .of (t .before) (t .entry) [] (t .seat) .keeps
 
 -- the key in front, and the oldest dropped where there is one too many: recording
 by-trim : (limit k : ℕ) (g : List ℕ) → length g ≤ limit → splitBy (eqb k) g ≡ missing → (t : Bool) → ltb limit (suc (length g)) ≡ t
@@ -171,7 +171,7 @@ by-trim : (limit k : ℕ) (g : List ℕ) → length g ≤ limit → splitBy (eqb
 by-trim limit k g h e true q = record-over limit k g h (ltb-true limit (suc (length g)) q) e
 by-trim limit k g h e false q = ap (λ (w : Given). w .ghosts) (record-room limit k g (ltb-false limit (suc (length g)) q) e)
 
-module _ {z : Shape} {s s₁ s₂ : List ℕ} {x : ℕ} (h : Held z s) (m : Laid z s s₁ Small x) (r : Trimmed z s₁ s₂) where
+module _ {z : Shape} {s s₁ s₂ : List ℕ} {x : ℕ} (h : Held z s) (m : DetachedToGhosts z s s₁ Small x) (r : Trimmed z s₁ s₂) where
   module _ (b : List Entry) (e : Entry) (t : Seat z s Small x b e []) where
     fell : Becomes z s s₁ (setGhosts (e .key ∷ stateIn z s .ghosts) (setQueue Small b (stateIn z s)))
     fell = rw (← append-nil b) (m .of b e [] t)
@@ -181,13 +181,13 @@ module _ {z : Shape} {s s₁ s₂ : List ℕ} {x : ℕ} (h : Held z s) (m : Laid
         let n = in-queue Small (stateIn z s) b e [] (seat-queue z s t) (λ y. bit (keyIs (e .key) y)) in
         split-none (eqb (e .key)) (stateIn z s .ghosts) (omega (arith, h .sound .once (e .key), ap bit (eq-eqb (e .key) (e .key) refl)))
 
-    buried : Becomes z s s₂ (ghosted Small e (setQueue Small b (stateIn z s)))
-    buried =
+    tail-recorded : Becomes z s s₂ (ghosted Small e (setQueue Small b (stateIn z s)))
+    tail-recorded =
         let w = by-trim (stateIn z s .limits .ghostLimit) (e .key) (stateIn z s .ghosts) (h .sound .few-ghosts) no-ghost (ltb (stateIn z s .limits .ghostLimit) (suc (length (stateIn z s .ghosts)))) refl in
         rw w (becomes-then fell (rw (fell .state) at (r .becomes)))
 
-  pub buries : Buries z s s₂ x
-  buries = record { of = buried }
+  pub recorded-tail : RecordedTail z s s₂ x
+  recorded-tail = record { of = tail-recorded }
 
 -- ---- clear
 
@@ -195,7 +195,7 @@ module _ {z : Shape} {s s₁ s₂ : List ℕ} {x : ℕ} (h : Held z s) (m : Laid
 pub record Clearing (z : Shape) (s₀ s : List ℕ) : Type 0 where
   pub keeps : Keeps z s
   pub state : setGhosts [] (stateIn z s) ≡ setGhosts [] (stateIn z s₀)
-  pub rest : cols z s Rest ≡ cols z s₀ Rest
+  pub rest : restIn z s ≡ restIn z s₀
   pub same : length s ≡ length s₀
 
 pub ghostsLeft : Shape → List ℕ → ℕ

@@ -1,1 +1,2 @@
 pub mod GhostLaws
+pub mod HeldLaws

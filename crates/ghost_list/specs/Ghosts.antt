@@ -8,10 +8,10 @@ use Prim.Native.Nat.{ℕ}
 use lib.Dec.{ltb}
 use lib.ListN.{length}
 use Rattle.nodes.specs.declared.Shape.{Shape}
-use Rattle.rules.specs.State.{Entry, State, Queue, Small, setQueue, setGhosts}
+use Rattle.rules.specs.State.{Entry, State, Queue, Small, setQueue, setGhosts, residents}
 use Rattle.rules.specs.Ghosts.{Given, keeps, evictLru, recordGhost, Removed, removeGhost, clearGhosts}
 use Rattle.rules.specs.Eviction.{ghosted}
-use Rattle.store.specs.Holds.{stateIn, Becomes}
+use Rattle.store.specs.Holds.{stateIn, Held, Becomes}
 use Rattle.store.specs.Seats.{Seat}
 use Rattle.ghost_list.specs.declared.Given.{Given as Given·}
 use Rattle.ghost_list.specs.declared.Given.the-variants.{Key, Nothing}
@@ -52,5 +52,10 @@ pub record Emptied (z : Shape) (s s′ : List ℕ) : Type 0 where
   pub becomes : Becomes z s s′ (setGhosts (clearGhosts (stateIn z s .ghosts)) (stateIn z s))
 
 -- the last entry of Small left, and was recorded
-pub record Buries (z : Shape) (s s′ : List ℕ) (x : ℕ) : Type 0 where
+pub record RecordedTail (z : Shape) (s s′ : List ℕ) (x : ℕ) : Type 0 where
   pub of : (b : List Entry) (e : Entry) → Seat z s Small x b e [] → Becomes z s s′ (ghosted Small e (setQueue Small b (stateIn z s)))
+
+-- a store that holds a sound state of ghosts alone, which is what a ghost list by itself is
+pub record GhostsAlone (z : Shape) (s : List ℕ) : Type 0 where
+  pub held : Held z s
+  pub none : residents (stateIn z s) ≡ 0

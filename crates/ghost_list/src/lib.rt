@@ -6,11 +6,11 @@ ghost use Rattle.rules.specs.State.{Queue, keyed};
 ghost use Rattle.store.specs.Holds.{stateIn, Keeps, Held};
 ghost use Rattle.store.specs.Seats.{Tail};
 ghost use Rattle.store.specs.Looks.{Lacks};
-ghost use Rattle.ghost_list.specs.Ghosts.{Recorded, Took, Lost, Made, Trimmed, Emptied, Buries};
-use nodes::Shape;
+ghost use Rattle.ghost_list.specs.Ghosts.{Recorded, Took, Lost, Made, Trimmed, Emptied, RecordedTail};
 use rules::GuestBlock;
+use store::Lookup;
 use store::QueueKind;
-use store::Spot;
+use store::Shape;
 
 // What a call gives back: the key that it dropped, or nothing.
 pub enum Given {
@@ -23,13 +23,13 @@ pub fn evict_lru(s: &mut [u8], z: Shape) -> Given
     requires { ⌜ Keeps z (now s) ⌝ }
     ensures { λ r. ⌜ Lost z (now (s .entry)) (now (s .exit)) r ⌝ }
 {
-    if store::ghosts_len(s, z) == 0 {
+    if store::ghost_len(s, z) == 0 {
         return Given::Nothing;
     }
     let x = store::oldest_of(s, z);
-    let k = nodes::key_of(s, z, x);
-    store::exhume(s, z, x);
-    Given::Key(GuestBlock(k))
+    let k = store::ghost_at(s, z, x);
+    store::remove_ghost(s, z, x);
+    Given::Key(k)
 }
 
 // Takes a key off the ghosts, and says whether it was there.
@@ -37,14 +37,14 @@ pub fn remove(s: &mut [u8], z: Shape, k: GuestBlock) -> bool
     requires { ⌜ Held z (now s) ⌝ }
     ensures { λ r. ⌜ Took z (now (s .entry)) (now (s .exit)) (k .0) r ⌝ }
 {
-    let spot = store::look(s, z, k.0);
-    match spot {
-        Spot::Ghost(x) => {
-            store::exhume(s, z, x);
+    let found = store::look(s, z, k);
+    match found {
+        Lookup::Ghost(x) => {
+            store::remove_ghost(s, z, x);
             true
         }
-        Spot::Resident(_, _) => false,
-        Spot::Absent => false,
+        Lookup::Resident(_, _) => false,
+        Lookup::Absent => false,
     }
 }
 
@@ -53,7 +53,7 @@ fn make_room(s: &mut [u8], z: Shape) -> Given
     requires { ⌜ Keeps z (now s) ⌝ }
     ensures { λ r. ⌜ Made z (now (s .entry)) (now (s .exit)) r ⌝ }
 {
-    if store::ghosts_len(s, z) < store::ghost_limit_of(s, z) {
+    if store::ghost_len(s, z) < store::ghost_limit_of(s, z) {
         return Given::Nothing;
     }
     evict_lru(s, z)
@@ -65,7 +65,7 @@ fn record_new(s: &mut [u8], z: Shape, k: GuestBlock) -> Given
     ensures { λ r. ⌜ Recorded z (now (s .entry)) (now (s .exit)) (k .0) r ⌝ }
 {
     let given = make_room(s, z);
-    store::haunt(s, z, k.0);
+    store::push_front(s, z, k);
     given
 }
 
@@ -77,14 +77,14 @@ pub fn record(s: &mut [u8], z: Shape, k: GuestBlock) -> Given
     if store::ghost_limit_of(s, z) == 0 {
         return Given::Nothing;
     }
-    let spot = store::look(s, z, k.0);
-    match spot {
-        Spot::Ghost(x) => {
-            store::to_front(s, z, x);
+    let found = store::look(s, z, k);
+    match found {
+        Lookup::Ghost(x) => {
+            store::move_to_front(s, z, x);
             Given::Nothing
         }
-        Spot::Resident(_, _) => Given::Nothing,
-        Spot::Absent => record_new(s, z, k),
+        Lookup::Resident(_, _) => Given::Nothing,
+        Lookup::Absent => record_new(s, z, k),
     }
 }
 
@@ -93,18 +93,18 @@ fn trim(s: &mut [u8], z: Shape)
     requires { ⌜ Keeps z (now s) ⌝ }
     ensures { λ _. ⌜ Trimmed z (now (s .entry)) (now (s .exit)) ⌝ }
 {
-    if store::ghost_limit_of(s, z) < store::ghosts_len(s, z) {
+    if store::ghost_limit_of(s, z) < store::ghost_len(s, z) {
         evict_lru(s, z);
     }
 }
 
 // Records the key of Small's last entry, which leaves: its node is relinked, so that the index is not walked. The list may be one too long for a
 // moment, and then the oldest goes; with limit 0 that is the key itself.
-pub fn bury(s: &mut [u8], z: Shape, x: usize)
+pub fn record_tail(s: &mut [u8], z: Shape, x: usize)
     requires { ⌜ Held z (now s) × Tail z (now s) Queue.Small x ⌝ }
-    ensures { λ _. ⌜ Buries z (now (s .entry)) (now (s .exit)) x ⌝ }
+    ensures { λ _. ⌜ RecordedTail z (now (s .entry)) (now (s .exit)) x ⌝ }
 {
-    store::lay_down(s, z, QueueKind::Small, x);
+    store::detach_to_ghosts(s, z, QueueKind::Small, x);
     trim(s, z);
 }
 
@@ -113,7 +113,7 @@ pub fn clear(s: &mut [u8], z: Shape)
     requires { ⌜ Keeps z (now s) ⌝ }
     ensures { λ _. ⌜ Emptied z (now (s .entry)) (now (s .exit)) ⌝ }
 {
-    while 0 < store::ghosts_len(s, z) {
+    while 0 < store::ghost_len(s, z) {
         evict_lru(s, z);
     }
 }

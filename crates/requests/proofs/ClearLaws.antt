@@ -5,15 +5,14 @@ use mathlib.Core.List.{List, [], _∷_, append-nil}
 use Prim.Native.Nat.{ℕ, _≤_, _<_}
 use native.Mathlib.Omega.{arith}
 use lib.ListN.{length, length-append}
-use Rattle.nodes.specs.Nodes.{Rest, cols}
 use Rattle.nodes.specs.declared.Shape.{Shape}
 use Rattle.rules.specs.State.{Entry, State, Queue, Small, Main, queueOf, setQueue, emptyAt}
 use Rattle.rules.specs.Records.{CL, OK, says}
 use Rattle.rules.specs.Requests.{apply}
 use Rattle.rules.proofs.PartsLaws.{nil}
 use Rattle.rules.proofs.StateLaws.{set-again, set-own, own-queue}
-use Rattle.store.specs.Holds.{stateIn, Keeps, Becomes}
-use Rattle.store.specs.Seats.{Tail, Freed}
+use Rattle.store.specs.Holds.{stateIn, restIn, Keeps, Becomes}
+use Rattle.store.specs.Seats.{Tail, EntryRemoved}
 use Rattle.store.proofs.KeepsLaws.{seat-queue}
 use Rattle.wire.specs.declared.Reply.the-variants.{Cleared}
 use Rattle.ghost_list.specs.Ghosts.{Emptied}
@@ -25,7 +24,7 @@ use Rattle.requests.proofs.KeyLaws.{answers}
 pub record Draining (z : Shape) (s₀ s : List ℕ) (q : Queue) : Type 0 where
   pub keeps : Keeps z s
   pub state : setQueue q [] (stateIn z s) ≡ setQueue q [] (stateIn z s₀)
-  pub rest : cols z s Rest ≡ cols z s₀ Rest
+  pub rest : restIn z s ≡ restIn z s₀
   pub same : length s ≡ length s₀
 
 pub left : Shape → Queue → List ℕ → ℕ
@@ -35,7 +34,7 @@ pub draining-start : {z : Shape} {s : List ℕ} (q : Queue) → Keeps z s → Dr
 draining-start q k = record { keeps = k; state = refl; rest = refl; same = refl }
 
 module _ {z : Shape} {s₀ s : List ℕ} {q : Queue} (c : Draining z s₀ s q) where
-  module _ {s₁ : List ℕ} {x : ℕ} (t : Tail z s q x) (m : Freed z s s₁ q x) where
+  module _ {s₁ : List ℕ} {x : ℕ} (t : Tail z s q x) (m : EntryRemoved z s s₁ q x) where
     fell : Becomes z s s₁ (setQueue q (t .before) (stateIn z s))
     fell = rw (← append-nil (t .before)) (m .of (t .before) (t .entry) [] (t .seat))
 

@@ -15,10 +15,10 @@ use Rattle.rules.specs.Eviction.{evictIfFull}
 use Rattle.rules.specs.Requests.{apply, onInsert, onNew, admits, arrive}
 use Rattle.rules.proofs.EngineLaws.{split-none}
 use Rattle.rules.proofs.SoundLaws.{Lessened, kept-sound, roomy-law, roomy-kept, roomy-less, Unghosted, remove-law}
-use Rattle.store.specs.declared.Spot.{Spot}
-use Rattle.store.specs.declared.Spot.the-variants.{Ghost, Absent}
+use Rattle.store.specs.declared.Lookup.{Lookup}
+use Rattle.store.specs.declared.Lookup.the-variants.{Ghost, Absent}
 use Rattle.store.specs.Holds.{stateIn, Held, Becomes}
-use Rattle.store.specs.Seats.{Exhumed, CanAdmit}
+use Rattle.store.specs.Seats.{GhostRemoved, CanAttachHead, AttachedHead}
 use Rattle.store.specs.Looks.{Looks, Lacks}
 use Rattle.store.proofs.KeepsLaws.{becomes-then}
 use Rattle.wire.specs.declared.Reply.the-variants.{New}
@@ -39,8 +39,8 @@ module _ {z : Shape} {s s₁ : List ℕ} {w : Evicted·} (h : Held z s) (m : Mak
   makes-held = record { keeps = m .becomes .keeps; sound = rw (m .becomes .state) (kept-sound kept (h .sound)) }
 
   -- a key that stood nowhere still does, and there is a node for it
-  pub can-admit : {k : ℕ} → Lacks z s k → CanAdmit z s₁ k
-  can-admit {k} l =
+  pub can-attach : {k : ℕ} → Lacks z s k → CanAttachHead z s₁ k
+  can-attach {k} l =
       let e = m .becomes .state in
       let limits = ap (λ (σ : State). σ .limits) e ∙ kept .limits-are in
       record {
@@ -60,19 +60,19 @@ module _ {z : Shape} {s s₁ : List ℕ} {w : Evicted·} (h : Held z s) (m : Mak
       }
 
 -- and the pair goes in
-pub arrived : {z : Shape} {s s₁ s₂ : List ℕ} {w : Evicted·} → Makes z s s₁ (evictIfFull (stateIn z s)) w → (q : Queue) (k v : ℕ) → Becomes z s₁ s₂ (pushTo q (fresh k v) (stateIn z s₁))
+pub arrived : {z : Shape} {s s₁ s₂ : List ℕ} {w : Evicted·} → Makes z s s₁ (evictIfFull (stateIn z s)) w → {q : Queue} {k v : ℕ} → AttachedHead z s₁ s₂ q k v
     → (a : Spoken) → a .pushed ≡ w .pushed → a .closing ≡ New (w .pops) → Arrives z s s₂ q k v a
-arrived {z} {s} m q k v b a e c =
+arrived m b a e c =
     record {
       comes = record {
-        becomes = becomes-then (m .becomes) (rw (m .becomes .state) at b);
+        becomes = becomes-then (m .becomes) (rw (m .becomes .state) at (b .becomes));
         replies = ap₂ (λ p r. pushedOf p ++ (told r ∷ [])) e c ∙ ap₂ (λ l n. l ++ (NW n ∷ [])) (m .told) (m .pops);
       };
     }
 
 -- ---- the key is taken off the ghosts
 
-module _ {z : Shape} {s : List ℕ} {k : ℕ} {r : Spot} (l : Looks z s k r) where
+module _ {z : Shape} {s : List ℕ} {k : ℕ} {r : Lookup} (l : Looks z s k r) where
   -- an insert that finds its key nowhere
   new : {s′ : List ℕ} {v : ℕ} {a : Spoken} (w : Removed) → removeGhost k (stateIn z s .ghosts) ≡ w → Nowhere z s k
       → Comes z s s′ (arrive (admits (w .was)) k v (evictIfFull (setGhosts (w .ghosts) (stateIn z s)))) (spokenOf a) → Answers z s s′ (IN k v) a
@@ -82,23 +82,23 @@ module _ {z : Shape} {s : List ℕ} {k : ℕ} {r : Spot} (l : Looks z s k r) whe
       (ap (onInsert k v (stateIn z s)) (n .place-is) ∙ ap (onNew k v (stateIn z s)) e) (c .becomes) (c .replies)
 
   module _ {x : ℕ} (e : r ≡ Ghost x) where
-    off : removeGhost k (stateIn z s .ghosts) ≡ record { ghosts = l .haunt x e .before ++ l .haunt x e .after; was = true }
+    off : removeGhost k (stateIn z s .ghosts) ≡ record { ghosts = l .is-ghost x e .before ++ l .is-ghost x e .after; was = true }
     unfolding removeGhost
-    off = ap (without (stateIn z s .ghosts)) (l .haunt x e .split-is)
+    off = ap (without (stateIn z s .ghosts)) (l .is-ghost x e .split-is)
 
-    module _ {s₁ : List ℕ} (m : Exhumed z s s₁ x) where
-      fell : Becomes z s s₁ (setGhosts (l .haunt x e .before ++ l .haunt x e .after) (stateIn z s))
-      fell = let t = l .haunt x e in m .of (t .before) k (t .after) (t .grave)
+    module _ {s₁ : List ℕ} (m : GhostRemoved z s s₁ x) where
+      fell : Becomes z s s₁ (setGhosts (l .is-ghost x e .before ++ l .is-ghost x e .after) (stateIn z s))
+      fell = let t = l .is-ghost x e in m .of (t .before) k (t .after) (t .seat)
 
       module _ (h : Held z s) where
-        gone : Unghosted k (stateIn z s) (record { ghosts = l .haunt x e .before ++ l .haunt x e .after; was = true })
+        gone : Unghosted k (stateIn z s) (record { ghosts = l .is-ghost x e .before ++ l .is-ghost x e .after; was = true })
         gone = rw off at (remove-law k (stateIn z s) (nowhere-keyed (nowhere-ghost l e)) (h .sound))
 
-        pub exhumed-held : Held z s₁
-        exhumed-held = record { keeps = fell .keeps; sound = rw (fell .state) (gone .sound) }
+        pub removed-held : Held z s₁
+        removed-held = record { keeps = fell .keeps; sound = rw (fell .state) (gone .sound) }
 
-        pub exhumed-lacks : Lacks z s₁ k
-        exhumed-lacks = record { none = rw (fell .state) (gone .none) }
+        pub removed-lacks : Lacks z s₁ k
+        removed-lacks = record { none = rw (fell .state) (gone .none) }
 
       pub insert-ghost : {s₂ : List ℕ} {v : ℕ} {a : Spoken} → Arrives z s₁ s₂ Main k v a → Answers z s s₂ (IN k v) a
       insert-ghost {v = v} c = new _ off (nowhere-ghost l e) (comes-then (λ σ. arrive Main k v (evictIfFull σ)) fell (c .comes))

@@ -4,22 +4,22 @@ use mathlib.Core.Path.{_≡_, refl, ap, _∙_, subst}
 use mathlib.Core.List.{List, [], _∷_}
 use Prim.Native.Nat.{ℕ, _+_, _<_, min}
 use native.Mathlib.Omega.{arith}
-use Rattle.nodes.specs.Nodes.{Value, Freq, GetsField}
 use Rattle.nodes.specs.declared.Shape.{Shape}
-use Rattle.rules.specs.declared.PhysicalBlock.{PhysicalBlock}
-use Rattle.rules.specs.State.{State, maxFreq, withFreq, raise, revalue, putAt, keyed, place, nowhere}
+use Rattle.rules.specs.State.{Entry, State, maxFreq, withFreq, raise, revalue, putAt, keyed, place, nowhere}
 use Rattle.rules.specs.Records.{Request, GT, PK, RM, IN, Reply, MI, HI, RE, GO, Outcome, says}
 use Rattle.rules.specs.Requests.{apply, onGet, onPeek, onRemove, onInsert}
 use Rattle.rules.proofs.StateLaws.{place-law}
 use Rattle.rules.proofs.EngineLaws.{place-none}
 use Rattle.store.specs.declared.QueueKind.{QueueKind}
-use Rattle.store.specs.declared.Spot.{Spot}
-use Rattle.store.specs.declared.Spot.the-variants.{Resident, Ghost, Absent}
+use Rattle.store.specs.declared.Entry.{Entry as Entry·}
+use Rattle.store.specs.declared.Lookup.{Lookup}
+use Rattle.store.specs.declared.Lookup.the-variants.{Resident, Ghost, Absent}
 use Rattle.store.specs.Holds.{stateIn, Keeps, Held, Becomes}
-use Rattle.store.specs.Seats.{queueKind, Marked, Replaced, Freed}
+use Rattle.store.specs.Entries.{entryOf, GetsEntry}
+use Rattle.store.specs.Seats.{queueKind, FreqSet, ValueReplaced, EntryRemoved}
 use Rattle.store.specs.Looks.{Looks}
-use Rattle.store.proofs.KeepsLaws.{seat-node, seat-value, seat-freq, becomes-then}
-use Rattle.wire.specs.declared.Reply.the-variants.{Miss, Hit, Replaced as Replaced·, Gone}
+use Rattle.store.proofs.KeepsLaws.{seat-node, seat-entry, becomes-then}
+use Rattle.wire.specs.declared.Reply.the-variants.{Miss, Hit, Replaced, Gone}
 use Rattle.requests.specs.declared.Spoken.{Spoken}
 use Rattle.requests.specs.Answers.{spokenOf, alone, Answers, Comes}
 
@@ -47,9 +47,9 @@ pub record Nowhere (z : Shape) (s : List ℕ) (k : ℕ) : Type 0 where
 pub nowhere-keyed : {z : Shape} {s : List ℕ} {k : ℕ} → Nowhere z s k → keyed k (stateIn z s) ≡ 0
 nowhere-keyed {z} {s} {k} n = rw (n .place-is) at (place-law k (stateIn z s))
 
-module _ {z : Shape} {s : List ℕ} {k : ℕ} {r : Spot} (l : Looks z s k r) where
+module _ {z : Shape} {s : List ℕ} {k : ℕ} {r : Lookup} (l : Looks z s k r) where
   pub nowhere-ghost : {x : ℕ} → r ≡ Ghost x → Nowhere z s k
-  nowhere-ghost {x} e = record { place-is = l .haunt x e .place-is }
+  nowhere-ghost {x} e = record { place-is = l .is-ghost x e .place-is }
 
   pub nowhere-absent : r ≡ Absent → Nowhere z s k
   nowhere-absent e = record { place-is = place-none k (stateIn z s) (omega (arith, l .absent e .none)) }
@@ -72,49 +72,51 @@ module _ {z : Shape} {s : List ℕ} {k : ℕ} (h : Held z s) (n : Nowhere z s k)
 
 -- ---- a resident key
 
-module _ {z : Shape} {s : List ℕ} {k : ℕ} {r : Spot} (l : Looks z s k r) {q : QueueKind} {x : ℕ} (e : r ≡ Resident q x) where
+module _ {z : Shape} {s : List ℕ} {k : ℕ} {r : Lookup} (l : Looks z s k r) {q : QueueKind} {x : ℕ} (e : r ≡ Resident q x) where
   pub resident-node : Held z s → x < z .room
   resident-node h = seat-node (h .keeps) (l .resident q x e .seat)
 
-  pub resident-reach : Held z s → x < z .room + 4
-  resident-reach h = omega (arith, resident-node h)
+  module _ {y : Entry·} (g : GetsEntry z s x y) where
+    read : entryOf y ≡ l .resident q x e .entry
+    read = seat-entry (l .resident q x e .seat) g
 
-  -- the raised frequency is that of the rules
-  frequency : {m n : ℕ} → GetsField z s Freq x m → n ≡ min maxFreq (m + 1) → n ≡ min maxFreq (l .resident q x e .entry .freq + 1)
-  frequency g w = w ∙ ap (λ y. min maxFreq (y + 1)) (seat-freq (l .resident q x e .seat) g)
+    old : y .value .0 ≡ l .resident q x e .entry .value
+    old = ap (λ (w : Entry). w .value) read
 
-  module _ {v : ℕ} (g : GetsField z s Value x v) (b : PhysicalBlock) (i : b .0 ≡ v) where
-    old : b .0 ≡ l .resident q x e .entry .value
-    old = i ∙ seat-value (l .resident q x e .seat) g
+    -- the raised frequency is that of the rules
+    frequency : {n : ℕ} → n ≡ min maxFreq (y .freq + 1) → n ≡ min maxFreq (l .resident q x e .entry .freq + 1)
+    frequency w = w ∙ ap (λ (d : Entry). min maxFreq (d .freq + 1)) read
 
-    pub get-hit : {s′ : List ℕ} {m n : ℕ} → GetsField z s Freq x m → n ≡ min maxFreq (m + 1) → Marked z s s′ x n → {a : Spoken} → a ≡ alone (Hit b) → Answers z s s′ (GT k) a
+    pub get-hit : {n : ℕ} → n ≡ min maxFreq (y .freq + 1) → {s′ : List ℕ} → FreqSet z s s′ x n → {a : Spoken} → a ≡ alone (Hit (y .value)) → Answers z s s′ (GT k) a
     unfolding apply onGet
-    get-hit {s′} f w c d =
+    get-hit w {s′} c d =
         let t = l .resident q x e in
         answers (says (putAt (queueKind q) (t .before) (raise (t .entry) ∷ []) (t .after) (stateIn z s)) (HI (t .entry .value))) (ap (onGet (stateIn z s)) (t .place-is))
-        (subst (λ y. Becomes z s s′ (putAt (queueKind q) (t .before) (withFreq y (t .entry) ∷ []) (t .after) (stateIn z s))) (frequency f w)
+        (subst (λ i. Becomes z s s′ (putAt (queueKind q) (t .before) (withFreq i (t .entry) ∷ []) (t .after) (stateIn z s))) (frequency w)
         (c .of (queueKind q) (t .before) (t .entry) (t .after) (t .seat)))
-        (ap spokenOf d ∙ ap (λ y. HI y ∷ []) old)
+        (ap spokenOf d ∙ ap (λ i. HI i ∷ []) old)
 
-    pub peek-hit : Held z s → {a : Spoken} → a ≡ alone (Hit b) → Answers z s s (PK k) a
+    pub peek-hit : Held z s → {a : Spoken} → a ≡ alone (Hit (y .value)) → Answers z s s (PK k) a
     unfolding apply onPeek
     peek-hit h d =
         let t = l .resident q x e in
-        answers (says (stateIn z s) (HI (t .entry .value))) (ap (onPeek (stateIn z s)) (t .place-is)) (becomes-same (h .keeps)) (ap spokenOf d ∙ ap (λ y. HI y ∷ []) old)
+        answers (says (stateIn z s) (HI (t .entry .value))) (ap (onPeek (stateIn z s)) (t .place-is)) (becomes-same (h .keeps)) (ap spokenOf d ∙ ap (λ i. HI i ∷ []) old)
 
-    pub remove-gone : {s′ : List ℕ} → Freed z s s′ (queueKind q) x → {a : Spoken} → a ≡ alone (Gone b) → Answers z s s′ (RM k) a
+    pub remove-gone : {s′ : List ℕ} → EntryRemoved z s s′ (queueKind q) x → {a : Spoken} → a ≡ alone (Gone (y .value)) → Answers z s s′ (RM k) a
     unfolding apply onRemove
     remove-gone c d =
         let t = l .resident q x e in
         answers (says (putAt (queueKind q) (t .before) [] (t .after) (stateIn z s)) (GO (t .entry .value))) (ap (onRemove (stateIn z s)) (t .place-is))
         (c .of (t .before) (t .entry) (t .after) (t .seat))
-        (ap spokenOf d ∙ ap (λ y. GO y ∷ []) old)
+        (ap spokenOf d ∙ ap (λ i. GO i ∷ []) old)
 
-    pub insert-over : {s′ : List ℕ} {m n u : ℕ} → GetsField z s Freq x m → n ≡ min maxFreq (m + 1) → Replaced z s s′ x u n → {a : Spoken} → a ≡ alone (Replaced· b) → Answers z s s′ (IN k u) a
+    pub insert-over : {n u : ℕ} → n ≡ min maxFreq (y .freq + 1) → {s′ : List ℕ} → ValueReplaced z s s′ x u n → {a : Spoken} → a ≡ alone (Replaced (y .value))
+        → Answers z s s′ (IN k u) a
     unfolding apply onInsert
-    insert-over {s′} {u = u} f w c d =
+    insert-over {u = u} w {s′} c d =
         let t = l .resident q x e in
-        answers (says (putAt (queueKind q) (t .before) (revalue u (raise (t .entry)) ∷ []) (t .after) (stateIn z s)) (RE (t .entry .value))) (ap (onInsert k u (stateIn z s)) (t .place-is))
-        (subst (λ y. Becomes z s s′ (putAt (queueKind q) (t .before) (revalue u (withFreq y (t .entry)) ∷ []) (t .after) (stateIn z s))) (frequency f w)
+        answers (says (putAt (queueKind q) (t .before) (revalue u (raise (t .entry)) ∷ []) (t .after) (stateIn z s)) (RE (t .entry .value)))
+        (ap (onInsert k u (stateIn z s)) (t .place-is))
+        (subst (λ i. Becomes z s s′ (putAt (queueKind q) (t .before) (revalue u (withFreq i (t .entry)) ∷ []) (t .after) (stateIn z s))) (frequency w)
         (c .of (queueKind q) (t .before) (t .entry) (t .after) (t .seat)))
-        (ap spokenOf d ∙ ap (λ y. RE y ∷ []) old)
+        (ap spokenOf d ∙ ap (λ i. RE i ∷ []) old)

@@ -1,23 +1,20 @@
 -- What a request on the store comes to, in the terms of the rules: the state, and the replies.
 -- Assumes nothing.
 use mathlib.Core.Path.{_≡_}
-use mathlib.Core.Bool.{cond}
 use mathlib.Core.List.{List, [], _∷_, _++_}
 use Prim.Native.Nat.{ℕ}
 use Rattle.nodes.specs.declared.Shape.{Shape}
 use Rattle.rules.specs.Parts.{popTail}
-use Rattle.rules.specs.State.{Entry, State, Queue, queueOf, setQueue}
-use Rattle.rules.specs.Records.{Request, Reply, MI, EX, Outcome, says}
-use Rattle.rules.specs.Eviction.{wanted, back, evictIfFull}
-use Rattle.rules.specs.Requests.{arrive, hands, onFirst, onSecond, firstQueue, apply}
+use Rattle.rules.specs.State.{State, Queue, queueOf, setQueue}
+use Rattle.rules.specs.Records.{Request, Reply, Outcome}
+use Rattle.rules.specs.Eviction.{evictIfFull}
+use Rattle.rules.specs.Requests.{arrive, onFirst, onSecond, firstQueue, apply}
 use Rattle.wire.specs.Wire.{told}
 use Rattle.store.specs.Holds.{stateIn, Becomes}
 use Rattle.wire.specs.declared.Reply.{Reply as Reply·}
 use Rattle.evict.specs.declared.Pushed.the-variants.{Nothing}
 use Rattle.evict.specs.Evicts.{pushedOf}
 use Rattle.requests.specs.declared.Spoken.{Spoken}
-use Rattle.requests.specs.declared.Popped.{Popped}
-use Rattle.requests.specs.declared.Popped.the-variants.{Handed, Back}
 
 -- the replies that the code's answer is: the pair pushed out before, and the closing one
 abbrev pub spokenOf : Spoken → List Reply
@@ -56,22 +53,6 @@ pub record Starts (z : Shape) (s : List ℕ) (q : Queue) : Type 0 where
 -- its second pop, where the first one handed nothing out
 abbrev pub secondOf : State → Outcome
 secondOf σ = onSecond σ (popTail (σ .main))
-
--- one of its pops: the last entry goes back to Main, or it is handed out
-abbrev pub popOf : Queue → List Entry → Entry → State → Outcome
-popOf q b e σ = cond (wanted e) (says (back q b e σ) MI) (hands q b e σ)
-
--- what such a pop says
-abbrev pub poppedOf : Popped → Reply
-poppedOf (Handed k v) = EX (k .0) (v .0)
-poppedOf Back = MI
-
--- the last entry of the queue q was popped so
-pub record Pops (z : Shape) (s s′ : List ℕ) (q : Queue) (r : Popped) : Type 0 where
-  pub before : List Entry
-  pub entry : Entry
-  pub tail-is : queueOf q (stateIn z s) ≡ before ++ (entry ∷ [])
-  pub comes : Comes z s s′ (popOf q before entry (stateIn z s)) (poppedOf r ∷ [])
 
 -- ---- clear
 

@@ -10,25 +10,20 @@ ghost use Rattle.store.specs.Holds.{stateIn, Keeps, Held};
 ghost use Rattle.store.specs.Seats.{queueKind};
 ghost use Rattle.store.specs.Looks.{Lacks};
 ghost use Rattle.wire.specs.Wire.{asked, told};
-ghost use Rattle.requests.specs.Answers.{alone, Answers, Comes, Arrives, Starts, firstOf, secondOf, Pops, Drained};
+ghost use Rattle.requests.specs.Answers.{alone, Answers, Comes, Arrives, Starts, firstOf, secondOf, Drained};
+use evict::Popped;
 use evict::Pushed;
-use nodes::Shape;
 use rules::GuestBlock;
 use rules::PhysicalBlock;
+use store::Lookup;
 use store::QueueKind;
-use store::Spot;
+use store::Shape;
 use wire::Reply;
 
 // What a request answers: the pair that eviction pushed out, and the closing reply.
 pub struct Spoken {
     pub pushed: Pushed,
     pub closing: Reply,
-}
-
-// What a pop of evict_one does: the pair is handed out, or it goes back to Main's head.
-enum Popped {
-    Handed(GuestBlock, PhysicalBlock),
-    Back,
 }
 
 // The answer where no pair was pushed out.
@@ -57,16 +52,16 @@ pub fn get(s: &mut [u8], z: Shape, k: GuestBlock) -> Spoken
     requires { ⌜ Held z (now s) ⌝ }
     ensures { λ r. ⌜ Answers z (now (s .entry)) (now (s .exit)) (Request.GT (k .0)) r ⌝ }
 {
-    let spot = store::look(s, z, k.0);
-    match spot {
-        Spot::Resident(_, x) => {
-            let v = nodes::value_of(s, z, x);
-            let n = raised(nodes::freq_of(s, z, x));
-            store::set_freq(s, z, x, n);
-            alone(Reply::Hit(PhysicalBlock(v)))
+    let found = store::look(s, z, k);
+    match found {
+        Lookup::Resident(_, x) => {
+            let entry = store::entry_at(s, z, x);
+            store::set_freq(s, z, x, raised(entry.freq));
+            let value = entry.value;
+            alone(Reply::Hit(value))
         }
-        Spot::Ghost(_) => alone(Reply::Miss),
-        Spot::Absent => alone(Reply::Miss),
+        Lookup::Ghost(_) => alone(Reply::Miss),
+        Lookup::Absent => alone(Reply::Miss),
     }
 }
 
@@ -75,11 +70,14 @@ pub fn peek(s: &[u8], z: Shape, k: GuestBlock) -> Spoken
     requires { ⌜ Held z (now s) ⌝ }
     ensures { λ r. ⌜ Answers z (now (s .entry)) (now (s .entry)) (Request.PK (k .0)) r ⌝ }
 {
-    let spot = store::look(s, z, k.0);
-    match spot {
-        Spot::Resident(_, x) => alone(Reply::Hit(PhysicalBlock(nodes::value_of(s, z, x)))),
-        Spot::Ghost(_) => alone(Reply::Miss),
-        Spot::Absent => alone(Reply::Miss),
+    let found = store::look(s, z, k);
+    match found {
+        Lookup::Resident(_, x) => {
+            let value = store::entry_at(s, z, x).value;
+            alone(Reply::Hit(value))
+        }
+        Lookup::Ghost(_) => alone(Reply::Miss),
+        Lookup::Absent => alone(Reply::Miss),
     }
 }
 
@@ -88,15 +86,15 @@ pub fn remove(s: &mut [u8], z: Shape, k: GuestBlock) -> Spoken
     requires { ⌜ Held z (now s) ⌝ }
     ensures { λ r. ⌜ Answers z (now (s .entry)) (now (s .exit)) (Request.RM (k .0)) r ⌝ }
 {
-    let spot = store::look(s, z, k.0);
-    match spot {
-        Spot::Resident(q, x) => {
-            let v = nodes::value_of(s, z, x);
-            store::release(s, z, q, x);
-            alone(Reply::Gone(PhysicalBlock(v)))
+    let found = store::look(s, z, k);
+    match found {
+        Lookup::Resident(q, x) => {
+            let value = store::entry_at(s, z, x).value;
+            store::remove_at(s, z, q, x);
+            alone(Reply::Gone(value))
         }
-        Spot::Ghost(_) => alone(Reply::Miss),
-        Spot::Absent => alone(Reply::Miss),
+        Lookup::Ghost(_) => alone(Reply::Miss),
+        Lookup::Absent => alone(Reply::Miss),
     }
 }
 
@@ -105,8 +103,8 @@ fn arrive(s: &mut [u8], z: Shape, q: QueueKind, k: GuestBlock, v: PhysicalBlock)
     requires { ⌜ Held z (now s) × Lacks z (now s) (k .0) ⌝ }
     ensures { λ r. ⌜ Arrives z (now (s .entry)) (now (s .exit)) (queueKind q) (k .0) (v .0) r ⌝ }
 {
-    let evicted = evict::evict_if_full(s, z);
-    store::admit(s, z, q, k.0, v.0);
+    let evicted = evict::evict_if_needed(s, z);
+    store::attach_head(s, z, q, k, v);
     let pushed = evicted.pushed;
     Spoken {
         pushed,
@@ -120,48 +118,49 @@ pub fn insert(s: &mut [u8], z: Shape, k: GuestBlock, v: PhysicalBlock) -> Spoken
     requires { ⌜ Held z (now s) ⌝ }
     ensures { λ r. ⌜ Answers z (now (s .entry)) (now (s .exit)) (Request.IN (k .0) (v .0)) r ⌝ }
 {
-    let spot = store::look(s, z, k.0);
-    match spot {
-        Spot::Resident(_, x) => {
-            let old = nodes::value_of(s, z, x);
-            let n = raised(nodes::freq_of(s, z, x));
-            store::replace(s, z, x, v.0, n);
-            alone(Reply::Replaced(PhysicalBlock(old)))
+    let found = store::look(s, z, k);
+    match found {
+        Lookup::Resident(_, x) => {
+            let entry = store::entry_at(s, z, x);
+            store::replace(s, z, x, v, raised(entry.freq));
+            let old = entry.value;
+            alone(Reply::Replaced(old))
         }
-        Spot::Ghost(x) => {
-            store::exhume(s, z, x);
+        Lookup::Ghost(x) => {
+            store::remove_ghost(s, z, x);
             arrive(s, z, QueueKind::Main, k, v)
         }
-        Spot::Absent => arrive(s, z, QueueKind::Small, k, v),
+        Lookup::Absent => arrive(s, z, QueueKind::Small, k, v),
     }
 }
 
-// Pops the tail of a queue that is not empty: with a frequency above 0 it goes back, otherwise the pair is handed out and becomes no ghost.
-fn pop(s: &mut [u8], z: Shape, q: QueueKind) -> Popped
-    requires { ⌜ Held z (now s) × (1 ≤ length (queueOf (queueKind q) (stateIn z (now s)))) ⌝ }
-    ensures { λ r. ⌜ Pops z (now (s .entry)) (now (s .exit)) (queueKind q) r ⌝ }
-{
-    let x = store::tail_of(s, z, q);
-    let freq = nodes::freq_of(s, z, x);
-    if 0 < freq {
-        evict::go_back(s, z, q, x, freq);
-        return Popped::Back;
-    }
-    let k = nodes::key_of(s, z, x);
-    let v = nodes::value_of(s, z, x);
-    store::release(s, z, q, x);
-    Popped::Handed(GuestBlock(k), PhysicalBlock(v))
-}
-
-// The second pop, from Main, which has the entry that the first one sent back.
+// The second pop, from Main, which has the entry that the first one sent back. A pair that is handed out becomes no ghost.
 fn second(s: &mut [u8], z: Shape) -> Reply
     requires { ⌜ Held z (now s) × (1 ≤ length (stateIn z (now s) .main)) ⌝ }
     ensures { λ r. ⌜ Comes z (now (s .entry)) (now (s .exit)) (secondOf (stateIn z (now (s .entry)))) (told r ∷ []) ⌝ }
 {
-    let popped = pop(s, z, QueueKind::Main);
+    let popped = evict::pop_tail(s, z, QueueKind::Main);
     match popped {
-        Popped::Handed(k, v) => Reply::Handed(k, v),
         Popped::Back => Reply::Miss,
+        Popped::Cold(x, k, v) => {
+            store::remove_at(s, z, QueueKind::Main, x);
+            Reply::Handed(k, v)
+        }
+    }
+}
+
+// The first pop, from a queue that is not empty, and the second where the first one hands nothing out.
+fn first(s: &mut [u8], z: Shape, q: QueueKind) -> Reply
+    requires { ⌜ Held z (now s) × Starts z (now s) (queueKind q) × (1 ≤ length (queueOf (queueKind q) (stateIn z (now s)))) ⌝ }
+    ensures { λ r. ⌜ Comes z (now (s .entry)) (now (s .exit)) (firstOf (stateIn z (now (s .entry)))) (told r ∷ []) ⌝ }
+{
+    let popped = evict::pop_tail(s, z, q);
+    match popped {
+        Popped::Back => second(s, z),
+        Popped::Cold(x, k, v) => {
+            store::remove_at(s, z, q, x);
+            Reply::Handed(k, v)
+        }
     }
 }
 
@@ -176,8 +175,8 @@ fn first_queue(s: &[u8], z: Shape) -> QueueKind
     QueueKind::Small
 }
 
-// The first pop, and the second where the first one hands nothing out.
-fn first(s: &mut [u8], z: Shape) -> Reply
+// What evict_one hands out after eviction, by one or two pops.
+fn hand_out(s: &mut [u8], z: Shape) -> Reply
     requires { ⌜ Held z (now s) ⌝ }
     ensures { λ r. ⌜ Comes z (now (s .entry)) (now (s .exit)) (firstOf (stateIn z (now (s .entry)))) (told r ∷ []) ⌝ }
 {
@@ -185,11 +184,7 @@ fn first(s: &mut [u8], z: Shape) -> Reply
     if store::len_of(s, z, q) == 0 {
         return Reply::Miss;
     }
-    let popped = pop(s, z, q);
-    match popped {
-        Popped::Handed(k, v) => Reply::Handed(k, v),
-        Popped::Back => second(s, z),
-    }
+    first(s, z, q)
 }
 
 // evict_one: eviction where the cache is full, and then one or two pops of its own.
@@ -197,9 +192,9 @@ pub fn evict_one(s: &mut [u8], z: Shape) -> Spoken
     requires { ⌜ Held z (now s) ⌝ }
     ensures { λ r. ⌜ Answers z (now (s .entry)) (now (s .exit)) Request.EV r ⌝ }
 {
-    let evicted = evict::evict_if_full(s, z);
+    let evicted = evict::evict_if_needed(s, z);
     let pushed = evicted.pushed;
-    let closing = first(s, z);
+    let closing = hand_out(s, z);
     Spoken { pushed, closing }
 }
 
@@ -210,7 +205,7 @@ fn drain(s: &mut [u8], z: Shape, q: QueueKind)
 {
     while 0 < store::len_of(s, z, q) {
         let x = store::tail_of(s, z, q);
-        store::release(s, z, q, x);
+        store::remove_at(s, z, q, x);
     }
 }
 

@@ -7,24 +7,26 @@ use Prim.Native.Nat.{ℕ, _+_, _-_, _≤_, _<_}
 use native.Mathlib.Omega.{arith}
 use native.Mathlib.Decide.{decLe}
 use lib.Dec.{leb}
-use lib.ListN.{length, getD}
+use lib.ListN.{length}
 use borrow.Author.Tests.{not-true, not-false, le-leb, lt-leb}
 use Rattle.cells.specs.Cells.{Bytes}
 use Rattle.cells.specs.Decides.{Decides, All}
 use Rattle.cells.proofs.DecidesLaws.{accept, refuse, decides-map}
-use Rattle.nodes.specs.Nodes.{Queue as Tag, Freq, cols, Room, GetsField}
+use Rattle.nodes.specs.Nodes.{cols, Room}
 use Rattle.nodes.specs.declared.Shape.{Shape}
 use Rattle.pool.specs.Carries.{Pooled}
-use Rattle.rules.specs.State.{Limits, State, Queue, Small, Main, most, maxFreq, residents, Fine, Sound}
+use Rattle.rules.specs.State.{Entry, Limits, State, most, maxFreq, residents, Fine, Sound}
 use Rattle.rules.specs.Verdict.{storeBytes}
 use Rattle.rules.proofs.PartsLaws.{length-total}
-use Rattle.store.specs.Holds.{listNo, limitsIn, stateIn, shapeFor, Keeps, Held, Holds}
+use Rattle.store.specs.declared.Entry.{Entry as Entry·}
+use Rattle.store.specs.Holds.{entryAt, limitsIn, stateIn, shapeFor, Keeps, Held, Holds}
+use Rattle.store.specs.Entries.{GetsEntry, HoldsResident}
 use Rattle.store.specs.Created.{Stated}
+use Rattle.store.proofs.PooledLaws.{pooled-places, bytes-narrow, nodes-cool, cool-nodes}
 use Rattle.store.proofs.HoldsLaws.{limits-shown, holds-limits, holds-held, room-for}
 use Rattle.soundness.specs.declared.Checked.{Checked}
 use Rattle.soundness.specs.declared.Checked.the-variants.{Sound as Sound·, Damaged}
 use Rattle.soundness.specs.Checks.{Shaped, Few, Cool, Checks}
-use Rattle.soundness.proofs.SoundLaws.{pooled-places, bytes-narrow, nodes-cool, cool-nodes}
 
 -- a test of the order of two numbers decides what comes to it
 decides-le : {P : Type 0} (a b : ℕ) → (a ≤ b → P) → (P → a ≤ b) → Decides P (leb a b)
@@ -79,23 +81,16 @@ module _ {σ : State} {a m : ℕ} (ra : a ≡ σ .limits .capacity) (rm : m ≡ 
 
 -- ---- how warm a node is
 
-module _ {z : Shape} {s : List ℕ} {x m : ℕ} (rm : GetsField z s Freq x m) where
-  pub freq-cool : m ≤ maxFreq → Decides (Cool z s x) true
-  freq-cool h = accept (record { cool = λ q e. omega (arith, rm .value) })
+module _ {z : Shape} {s : List ℕ} {x : ℕ} {e : Entry·} (g : GetsEntry z s x e) where
+  freq-read : e .freq ≡ entryAt (cols z s) x .freq
+  freq-read = ap (λ (y : Entry). y .freq) (g .entry)
 
-  module _ (h : maxFreq < m) {t : ℕ} (rt : GetsField z s Tag x t) where
-    pub small-warm : t ≡ 1 → Decides (Cool z s x) false
-    small-warm e = refuse (λ k. omega (arith, k .cool Small (sym (rt .value) ∙ e), rm .value))
+  pub freq-cool : e .freq ≤ maxFreq → Decides (Cool z s x) true
+  freq-cool h = accept (record { cool = λ r. omega (arith, freq-read) })
 
-    pub main-warm : t ≡ 2 → Decides (Cool z s x) false
-    main-warm e = refuse (λ k. omega (arith, k .cool Main (sym (rt .value) ∙ e), rm .value))
-
-    pub none-warm : (t ≡ 1 → ⊥) → (t ≡ 2 → ⊥) → Decides (Cool z s x) true
-    none-warm a b = accept (record { cool = λ q e. absurd (neither q (rt .value ∙ e)) })
-      where
-        neither : (q : Queue) → t ≡ listNo q → ⊥
-        neither Small e = a e
-        neither Main e = b e
+  pub resident-warm : maxFreq < e .freq → (b : Bool) → Decides (HoldsResident z s x) b → Decides (Cool z s x) (not b)
+  resident-warm h true d = refuse (λ k. omega (arith, k .cool (d .holds refl), freq-read))
+  resident-warm h false d = accept (record { cool = λ r. absurd (d .fails refl r) })
 
 -- ---- at one shape
 
@@ -110,8 +105,11 @@ module _ {z : Shape} {s : List ℕ} where
 
       module _ {q : Bool} (g : Decides (Few (stateIn z s)) q) where
         pub all-decide : Bytes s → Room z s → not q ≡ false → {r : Bool} → Decides (All (Cool z s) (z .room)) r → Decides (Held z s) r
-        all-decide b r i = decides-map to (λ k. cool-nodes z s (k .keeps .pooled) (k .sound .cool-enough))
+        all-decide b r i = decides-map to from
           where
+            from : Held z s → All (Cool z s) (z .room)
+            from k = record { all = λ y l. record { cool = cool-nodes z s (k .keeps .pooled) (k .sound .cool-enough) y l } }
+
             to : All (Cool z s) (z .room) → Held z s
             to a =
                 let k : Keeps z s = pool-keeps r in
@@ -122,7 +120,7 @@ module _ {z : Shape} {s : List ℕ} where
                     fine = subst Fine (sym (limits-shown z s)) (h .fine);
                     within = w .within;
                     once = pooled-places z s (k .pooled);
-                    cool-enough = nodes-cool z s (k .pooled) a;
+                    cool-enough = nodes-cool z s (k .pooled) (λ y l. a .all y l .cool);
                     few-ghosts = w .few-ghosts;
                     narrow = bytes-narrow z s b;
                   };

@@ -3,11 +3,12 @@
 use mathlib.Core.Path.{_≡_}
 use mathlib.Core.List.{List}
 use Prim.Native.Nat.{ℕ, _≤_}
-use lib.ListN.{length, getD}
-use Rattle.nodes.specs.Nodes.{Queue as Tag, Freq, cols}
+use lib.ListN.{length}
+use Rattle.nodes.specs.Nodes.{cols}
 use Rattle.nodes.specs.declared.Shape.{Shape}
-use Rattle.rules.specs.State.{State, Queue, maxFreq, residents, Fine}
-use Rattle.store.specs.Holds.{listNo, limitsIn, shapeFor, Held, Holds}
+use Rattle.rules.specs.State.{State, maxFreq, residents, Fine}
+use Rattle.store.specs.Holds.{entryAt, limitsIn, shapeFor, Held, Holds}
+use Rattle.store.specs.Entries.{HoldsResident}
 use Rattle.soundness.specs.declared.Checked.{Checked}
 use Rattle.soundness.specs.declared.Checked.the-variants.{Sound, Damaged}
 
@@ -25,7 +26,7 @@ pub record Few (σ : State) : Type 0 where
 
 -- the node x, if it is a resident's, is no warmer than the highest frequency
 pub record Cool (z : Shape) (s : List ℕ) (x : ℕ) : Type 0 where
-  pub cool : (q : Queue) → getD (cols z s Tag) x 0 ≡ listNo q → getD (cols z s Freq) x 0 ≤ maxFreq
+  pub cool : HoldsResident z s x → entryAt (cols z s) x .freq ≤ maxFreq
 
 -- ---- the whole
 

@@ -9,9 +9,9 @@ ghost use Rattle.rules.specs.Verdict.{storeBytes};
 ghost use Rattle.sizing.specs.Answers.{limitsOf};
 ghost use Rattle.store.specs.Holds.{stateIn, Keeps, Held};
 ghost use Rattle.soundness.specs.Checks.{Shaped, Few, Cool, Checks};
-use nodes::Shape;
 use sizing::Limits;
 use store::QueueKind;
+use store::Shape;
 
 // What a store was found to be: sound, with its numbers of nodes and buckets, or damaged.
 pub enum Checked {
@@ -50,7 +50,7 @@ fn few_enough(s: &[u8], z: Shape) -> bool
         return false;
     }
     let ghost_limit = store::ghost_limit_of(s, z);
-    store::ghosts_len(s, z) <= ghost_limit
+    store::ghost_len(s, z) <= ghost_limit
 }
 
 // Whether node x, if it is a resident's, has a frequency of 3 at most. The frequencies of ghosts and of free nodes are of no account.
@@ -58,17 +58,11 @@ fn is_cool(s: &[u8], z: Shape, x: usize) -> bool
     requires { ⌜ Room z (now s) × (x < z .room) ⌝ }
     ensures { λ r. ⌜ Decides (Cool z (now (s .entry)) x) r ⌝ }
 {
-    if nodes::freq_of(s, z, x) <= rules::MAX_FREQ as usize {
+    let entry = store::entry_at(s, z, x);
+    if entry.freq <= rules::MAX_FREQ as usize {
         return true;
     }
-    let list = nodes::queue_of(s, z, x);
-    if list == lists::SMALL {
-        return false;
-    }
-    if list == lists::MAIN {
-        return false;
-    }
-    true
+    !store::holds_resident(s, z, x)
 }
 
 // Whether every node is so.
@@ -91,7 +85,7 @@ fn is_held(s: &[u8], z: Shape) -> bool
     requires { ⌜ Room z (now s) × Shaped z (now s) ⌝ }
     ensures { λ r. ⌜ Decides (Held z (now (s .entry))) r ⌝ }
 {
-    if !pool::check_pool(s, z) {
+    if !store::check_lists_and_index(s, z) {
         return false;
     }
     if !few_enough(s, z) {

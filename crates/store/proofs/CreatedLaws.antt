@@ -46,9 +46,9 @@ module _ {z : Shape} {s s′ : List ℕ} {L : Limits} (w : Limited z s s′ L) w
 
 -- ---- and the pool laid behind it
 
-laid-state : {z : Shape} {s s′ : List ℕ} → PoolSetUp z s s′ → stateIn z s′ ≡ emptyAt (limitsIn (cols z s))
+set-up-state : {z : Shape} {s s′ : List ℕ} → PoolSetUp z s s′ → stateIn z s′ ≡ emptyAt (limitsIn (cols z s))
 unfolding stateIn
-laid-state {z} {s} {s′} l = λ i.
+set-up-state {z} {s} {s′} l = λ i.
     record {
       limits = limits-aside (l .aside) i;
       small = map (entryAt (cols z s′)) (l .none 1 (kind Small) i);
@@ -58,7 +58,7 @@ laid-state {z} {s} {s′} l = λ i.
 
 made : {L : Limits} {s s₁ s₂ : List ℕ} → Fine L → storeBytes ≤ length s₂ → Limited (shapeFor L) s s₁ L → PoolSetUp (shapeFor L) s₁ s₂ → SetUp L s s₂
 made {L} {s} {s₁} {s₂} f b w l =
-    let e : stateIn (shapeFor L) s₂ ≡ emptyAt L = laid-state l ∙ ap emptyAt (limited-limits w) in
+    let e : stateIn (shapeFor L) s₂ ≡ emptyAt L = set-up-state l ∙ ap emptyAt (limited-limits w) in
     record {
       held = record {
         keeps = record { room = shape-room f b; pooled = record { carries = l .carries }; shaped = ap shapeFor (sym (limits-aside (l .aside) ∙ limited-limits w)) };

@@ -14,15 +14,18 @@ use Rattle.lists.proofs.ListsLaws.{lists-tail, lists-once}
 use Rattle.pool.specs.Carries.{Carries, listsOf, Pooled, Aside, Alike, LiveList, CanMove, Moved, CanRelease, Released, CanFill, Filled}
 use Rattle.pool.proofs.CarriesLaws.{carries-view}
 use Rattle.pool.proofs.PoolLaws.{freq-pooled, value-pooled, value-lists, value-aside, pooled-length, pooled-node, can-fill}
+use Rattle.rules.specs.declared.GuestBlock.{GuestBlock}
 use Rattle.rules.specs.Parts.{total}
 use Rattle.rules.specs.State.{Entry, Limits, State, Queue, Small, Main, fresh, withFreq, revalue, queueOf, setQueue, setGhosts, pushTo, putAt, residents, one, places}
 use Rattle.rules.proofs.PartsLaws.{length-total}
 use Rattle.rules.proofs.StateLaws.{set-again}
 use Rattle.store.specs.declared.QueueKind.{QueueKind}
+use Rattle.store.specs.declared.Entry.{Entry as Entry·}
 use Rattle.store.specs.Holds.{listNo, ghostsNo, entryAt, keyAt, limitsIn, stateIn, shapeFor, Keeps, Becomes}
-use Rattle.store.specs.Seats.{Seat, Seated, Tail, Grave, Buried, Oldest, Marked, Replaced, Freed, SentBack, Laid, Exhumed, Fronted, CanAdmit, CanHaunt}
+use Rattle.store.specs.Entries.{entryOf, GetsEntry, GetsGhost}
+use Rattle.store.specs.Seats.{Seat, Seated, Tail, GhostSeat, GhostSeated, Oldest, FreqSet, ValueReplaced, EntryRemoved, Reattached, DetachedToGhosts, GhostRemoved, Fronted, CanAttachHead, AttachedHead, CanPushFront, PushedFront}
 use Rattle.store.proofs.MapLaws.{map-append, map-length, map-out}
-use Rattle.store.proofs.ShownLaws.{limits-aside, queue-shown, ghosts-shown, moved-main, moved-down, moved-ghost, released-queue, released-ghost, filled-queue, filled-ghost, marked, valued, valued-other, valued-own}
+use Rattle.store.proofs.ShownLaws.{limits-aside, queue-shown, ghosts-shown, moved-main, moved-to-ghosts, moved-ghost, released-queue, released-ghost, filled-queue, filled-ghost, freq-written, valued, valued-other, valued-own}
 use Rattle.store.proofs.LookLaws.{places-miss}
 
 -- ---- lists of residents and of ghosts
@@ -85,7 +88,7 @@ module _ {z : Shape} {s : List ℕ} (k : Keeps z s) where
       record {
         before = map (keyAt (cols z s)) (m .front);
         key = keyAt (cols z s) x;
-        grave = record { front = m .front; back = []; is = m .is; before = refl; here = refl; after = refl };
+        seat = record { front = m .front; back = []; is = m .is; before = refl; here = refl; after = refl };
       }
 
   pub seat-among : {q : Queue} {x : ℕ} {b : List Entry} {e : Entry} {a : List Entry} → Seat z s q x b e a → Among x (listsOf z (cols z s) (listNo q))
@@ -103,20 +106,20 @@ module _ {z : Shape} {s : List ℕ} (k : Keeps z s) where
   pub seated-move : {q : Queue} {x t : ℕ} → Seated z s q x → t ≡ listNo q → CanMove z s t (listNo Main) x
   seated-move {q} h e = rw e (record { pooled = k .pooled; from = kind q; to = kind Main; among = seat-among (h .seat) })
 
-  pub seated-down : {q : Queue} {x t : ℕ} → Seated z s q x → t ≡ listNo q → CanMove z s t ghostsNo x
-  seated-down {q} h e = rw e (record { pooled = k .pooled; from = kind q; to = ghost-kind; among = seat-among (h .seat) })
+  pub seated-to-ghosts : {q : Queue} {x t : ℕ} → Seated z s q x → t ≡ listNo q → CanMove z s t ghostsNo x
+  seated-to-ghosts {q} h e = rw e (record { pooled = k .pooled; from = kind q; to = ghost-kind; among = seat-among (h .seat) })
 
-  grave-among : {x : ℕ} {b : List ℕ} {g : ℕ} {a : List ℕ} → Grave z s x b g a → Among x (listsOf z (cols z s) ghostsNo)
-  grave-among h = record { front = h .front; back = h .back; is = h .is }
+  ghost-among : {x : ℕ} {b : List ℕ} {g : ℕ} {a : List ℕ} → GhostSeat z s x b g a → Among x (listsOf z (cols z s) ghostsNo)
+  ghost-among h = record { front = h .front; back = h .back; is = h .is }
 
-  pub buried-node : {x : ℕ} → Buried z s x → x < z .room + 4
-  buried-node h = omega (arith, pooled-node (k .pooled) ghost-kind (grave-among (h .grave)))
+  pub ghost-node : {x : ℕ} → GhostSeated z s x → x < z .room
+  ghost-node h = pooled-node (k .pooled) ghost-kind (ghost-among (h .seat))
 
-  pub buried-release : {x : ℕ} → Buried z s x → CanRelease z s ghostsNo x
-  buried-release h = record { pooled = k .pooled; from = ghost-kind; among = grave-among (h .grave) }
+  pub ghost-release : {x : ℕ} → GhostSeated z s x → CanRelease z s ghostsNo x
+  ghost-release h = record { pooled = k .pooled; from = ghost-kind; among = ghost-among (h .seat) }
 
-  pub buried-move : {x : ℕ} → Buried z s x → CanMove z s ghostsNo ghostsNo x
-  buried-move h = record { pooled = k .pooled; from = ghost-kind; to = ghost-kind; among = grave-among (h .grave) }
+  pub ghost-move : {x : ℕ} → GhostSeated z s x → CanMove z s ghostsNo ghostsNo x
+  ghost-move h = record { pooled = k .pooled; from = ghost-kind; to = ghost-kind; among = ghost-among (h .seat) }
 
   -- how many nodes are in use
   in-use : length (listsOf z (cols z s) 1) + length (listsOf z (cols z s) 2) + length (listsOf z (cols z s) 3) ≡ residents (stateIn z s) + length (stateIn z s .ghosts)
@@ -126,34 +129,28 @@ module _ {z : Shape} {s : List ℕ} (k : Keeps z s) where
   unfolding stateIn
   rooms = ap (λ (x : Shape). x .room) (k .shaped)
 
-  pub admit-fill : (q : Queue) {g t : ℕ} → CanAdmit z s g → t ≡ listNo q → CanFill z s t g
-  admit-fill q {g} h e = rw e (can-fill (k .pooled) (kind q) (places-miss z s (k .pooled) g (h .none)) (omega (arith, in-use, rooms, h .less, h .few)))
+  pub attach-fill : (q : Queue) {g t : ℕ} → CanAttachHead z s g → t ≡ listNo q → CanFill z s t g
+  attach-fill q {g} h e = rw e (can-fill (k .pooled) (kind q) (places-miss z s (k .pooled) g (h .none)) (omega (arith, in-use, rooms, h .less, h .few)))
 
-  pub haunt-fill : {g : ℕ} → CanHaunt z s g → CanFill z s ghostsNo g
-  haunt-fill {g} h = can-fill (k .pooled) ghost-kind (places-miss z s (k .pooled) g (h .none)) (omega (arith, in-use, rooms, h .within, h .fewer))
+  pub push-fill : {g : ℕ} → CanPushFront z s g → CanFill z s ghostsNo g
+  push-fill {g} h = can-fill (k .pooled) ghost-kind (places-miss z s (k .pooled) g (h .none)) (omega (arith, in-use, rooms, h .within, h .fewer))
 
 -- ---- what is read at a seat
 
-module _ {z : Shape} {s : List ℕ} {q : Queue} {x r : ℕ} {b : List Entry} {e : Entry} {a : List Entry} (h : Seat z s q x b e a) where
-  pub seat-key : GetsField z s Key x r → r ≡ e .key
-  seat-key g = g .value ∙ ap (λ (y : Entry). y .key) (h .here)
+pub seat-entry : {z : Shape} {s : List ℕ} {q : Queue} {x : ℕ} {b : List Entry} {e : Entry} {a : List Entry} → Seat z s q x b e a
+    → {r : Entry·} → GetsEntry z s x r → entryOf r ≡ e
+seat-entry h g = g .entry ∙ h .here
 
-  pub seat-value : GetsField z s Value x r → r ≡ e .value
-  seat-value g = g .value ∙ ap (λ (y : Entry). y .value) (h .here)
-
-  pub seat-freq : GetsField z s Freq x r → r ≡ e .freq
-  seat-freq g = g .value ∙ ap (λ (y : Entry). y .freq) (h .here)
+pub ghost-key : {z : Shape} {s : List ℕ} {x : ℕ} {b : List ℕ} {k : ℕ} {a : List ℕ} → GhostSeat z s x b k a → {r : GuestBlock} → GetsGhost z s x r → r .0 ≡ k
+ghost-key h g = g .key ∙ h .here
 
 pub seat-queue : (z : Shape) (s : List ℕ) {q : Queue} {x : ℕ} {b : List Entry} {e : Entry} {a : List Entry} → Seat z s q x b e a → queueOf q (stateIn z s) ≡ b ++ (e ∷ a)
 seat-queue z s {q} {x} {b} {e} {a} h =
     queue-shown z s q ∙ ap (map (entryAt (cols z s))) (h .is) ∙ map-append (entryAt (cols z s)) (h .front) (x ∷ h .back)
     ∙ (λ i. h .before i ++ (h .here i ∷ h .after i))
 
-pub grave-key : {z : Shape} {s : List ℕ} {x r : ℕ} {b : List ℕ} {g : ℕ} {a : List ℕ} → Grave z s x b g a → GetsField z s Key x r → r ≡ g
-grave-key h g = g .value ∙ h .here
-
-pub grave-ghosts : (z : Shape) (s : List ℕ) {x : ℕ} {b : List ℕ} {g : ℕ} {a : List ℕ} → Grave z s x b g a → stateIn z s .ghosts ≡ b ++ (g ∷ a)
-grave-ghosts z s {x} h =
+pub ghost-seat-ghosts : (z : Shape) (s : List ℕ) {x : ℕ} {b : List ℕ} {g : ℕ} {a : List ℕ} → GhostSeat z s x b g a → stateIn z s .ghosts ≡ b ++ (g ∷ a)
+ghost-seat-ghosts z s {x} h =
     ghosts-shown z s ∙ ap (map (keyAt (cols z s))) (h .is) ∙ map-append (keyAt (cols z s)) (h .front) (x ∷ h .back)
     ∙ (λ i. h .before i ++ (h .here i ∷ h .after i))
 
@@ -166,8 +163,8 @@ module _ {z : Shape} {s s′ : List ℕ} (k : Keeps z s) (n : length s′ ≡ le
   becomes : {τ : State} → Pooled z s′ → Aside (cols z s) (cols z s′) → stateIn z s′ ≡ τ → Becomes z s s′ τ
   becomes p a e = record { keeps = keeps-aside p a; state = e; rest = a .rest }
 
-  pub freed : {q : Queue} {t x : ℕ} → t ≡ listNo q → Released z s s′ t x → Freed z s s′ q x
-  freed {q} {t} {x} e m₀ =
+  pub entry-removed : {q : Queue} {t x : ℕ} → t ≡ listNo q → Released z s s′ t x → EntryRemoved z s s′ q x
+  entry-removed {q} {t} {x} e m₀ =
       let m : Released z s s′ (listNo q) x = rw e at m₀ in
       record {
         of = λ b y a h.
@@ -175,19 +172,19 @@ module _ {z : Shape} {s s′ : List ℕ} (k : Keeps z s) (n : length s′ ≡ le
             (released-queue z s s′ (h .front) x (h .back) q (h .is) m ∙ ap₂ (λ l r. setQueue q (l ++ r) (stateIn z s)) (h .before) (h .after));
       }
 
-  pub laid : {q : Queue} {t x : ℕ} → t ≡ listNo q → Moved z s s′ t ghostsNo x → Laid z s s′ q x
-  laid {q} {t} {x} e m₀ =
+  pub detached-to-ghosts : {q : Queue} {t x : ℕ} → t ≡ listNo q → Moved z s s′ t ghostsNo x → DetachedToGhosts z s s′ q x
+  detached-to-ghosts {q} {t} {x} e m₀ =
       let m : Moved z s s′ (listNo q) ghostsNo x = rw e at m₀ in
       record {
         of = λ b y a h.
             becomes (m .pooled) (m .alike .aside)
-            (moved-down z s s′ (h .front) x (h .back) q (h .is) m
+            (moved-to-ghosts z s s′ (h .front) x (h .back) q (h .is) m
             ∙ ap (λ (n : ℕ). setGhosts (n ∷ stateIn z s .ghosts) (setQueue q (map (entryAt (cols z s)) (h .front) ++ map (entryAt (cols z s)) (h .back)) (stateIn z s))) (ap (λ (w : Entry). w .key) (h .here))
             ∙ ap₂ (λ l r. setGhosts (y .key ∷ stateIn z s .ghosts) (setQueue q (l ++ r) (stateIn z s))) (h .before) (h .after));
       }
 
-  pub exhumed : {x : ℕ} → Released z s s′ ghostsNo x → Exhumed z s s′ x
-  exhumed {x} m =
+  pub ghost-removed : {x : ℕ} → Released z s s′ ghostsNo x → GhostRemoved z s s′ x
+  ghost-removed {x} m =
       record {
         of = λ b g a h.
             becomes (m .pooled) (m .alike .aside)
@@ -204,23 +201,23 @@ module _ {z : Shape} {s s′ : List ℕ} (k : Keeps z s) (n : length s′ ≡ le
             ∙ ap₂ (λ l r. setGhosts (g ∷ (l ++ r)) (stateIn z s)) (h .before) (h .after));
       }
 
-  pub admitted : (q : Queue) {t g v x : ℕ} → t ≡ listNo q → Filled z s s′ t g v x → Becomes z s s′ (pushTo q (fresh g v) (stateIn z s))
-  admitted q {t} {g} {v} {x} e m₀ =
+  pub attached-head : (q : Queue) {t g v x : ℕ} → t ≡ listNo q → Filled z s s′ t g v x → AttachedHead z s s′ q g v
+  attached-head q {t} {g} {v} {x} e m₀ =
       let m : Filled z s s′ (listNo q) g v x = rw e at m₀ in
-      becomes (m .pooled) (m .aside) (filled-queue z s s′ g v x (k .pooled) q m)
+      record { becomes = becomes (m .pooled) (m .aside) (filled-queue z s s′ g v x (k .pooled) q m) }
 
-  pub haunted : {g v x : ℕ} → Filled z s s′ ghostsNo g v x → Becomes z s s′ (setGhosts (g ∷ stateIn z s .ghosts) (stateIn z s))
-  haunted {g} {v} {x} m = becomes (m .pooled) (m .aside) (filled-ghost z s s′ g v x (k .pooled) m)
+  pub pushed-front : {g v x : ℕ} → Filled z s s′ ghostsNo g v x → PushedFront z s s′ g
+  pushed-front {g} {v} {x} m = record { becomes = becomes (m .pooled) (m .aside) (filled-ghost z s s′ g v x (k .pooled) m) }
 
   freq-aside : {x v : ℕ} → SetsField z s s′ Freq x v → Aside (cols z s) (cols z s′)
   freq-aside w = record { limits = λ i h. rw (w .columns, over-at); rest = rw (w .columns, over-at) }
 
-  pub freqs : {x v : ℕ} → SetsField z s s′ Freq x v → Marked z s s′ x v
-  freqs {x} {v} w =
+  pub freq-set : {x v : ℕ} → SetsField z s s′ Freq x v → FreqSet z s s′ x v
+  freq-set {x} {v} w =
       record {
         of = λ q b y a h.
             becomes (freq-pooled (k .pooled) w) (freq-aside w)
-            (marked z s s′ (k .pooled) q (h .front) x (h .back) (h .is) v w
+            (freq-written z s s′ (k .pooled) q (h .front) x (h .back) (h .is) v w
             ∙ ap (λ (e : Entry). putAt q (map (entryAt (cols z s)) (h .front)) (withFreq v e ∷ []) (map (entryAt (cols z s)) (h .back)) (stateIn z s)) (h .here)
             ∙ ap₂ (λ l r. putAt q l (withFreq v y ∷ []) r (stateIn z s)) (h .before) (h .after));
       }
@@ -248,13 +245,13 @@ module _ {z : Shape} {s s₁ : List ℕ} (k : Keeps z s) (n : length s₁ ≡ le
     main-seat : Seat z s₁ Main x [] e (queueOf Main (setQueue q (b ++ a) (stateIn z s)))
     main-seat = record { front = []; back = heads .0; is = heads .1; before = refl; here = head-eq-of-cons-eq shows; after = tail-eq-of-cons-eq shows }
 
-  pub sent-back : {s₂ : List ℕ} → length s₂ ≡ length s₁ → {q : Queue} {t x v : ℕ} → t ≡ listNo q → Moved z s s₁ t (listNo Main) x → SetsField z s₁ s₂ Freq x v → SentBack z s s₂ q x v
-  sent-back {s₂} n₁ {q} {t} {x} {v} e m₀ w =
+  pub reattached : {s₂ : List ℕ} → length s₂ ≡ length s₁ → {q : Queue} {t x v : ℕ} → t ≡ listNo q → Moved z s s₁ t (listNo Main) x → SetsField z s₁ s₂ Freq x v → Reattached z s s₂ q x v
+  reattached {s₂} n₁ {q} {t} {x} {v} e m₀ w =
       let m : Moved z s s₁ (listNo q) (listNo Main) x = rw e at m₀ in
       record {
         of = λ b y a h.
             let f : Becomes z s s₁ (pushTo Main y (setQueue q (b ++ a) (stateIn z s))) = went m b y a h in
-            let g = freqs (f .keeps) n₁ w .of Main [] y (queueOf Main (setQueue q (b ++ a) (stateIn z s))) (main-seat m b y a h) in
+            let g = freq-set (f .keeps) n₁ w .of Main [] y (queueOf Main (setQueue q (b ++ a) (stateIn z s))) (main-seat m b y a h) in
             becomes-then f
             (record {
               keeps = g .keeps;
@@ -286,12 +283,12 @@ module _ {z : Shape} {s s₁ : List ℕ} (k : Keeps z s) {x v : ℕ} (w : SetsFi
       ∙ ap (λ (y : Entry). putAt q (map (entryAt (cols z s)) (h .front)) (revalue v y ∷ []) (map (entryAt (cols z s)) (h .back)) (stateIn z s)) (h .here)
       ∙ ap₂ (λ l r. putAt q l (revalue v e ∷ []) r (stateIn z s)) (h .before) (h .after))
 
-  pub replaced : length s₁ ≡ length s → {s₂ : List ℕ} → length s₂ ≡ length s₁ → {n : ℕ} → SetsField z s₁ s₂ Freq x n → Replaced z s s₂ x v n
-  replaced l {s₂} l₁ {n} m =
+  pub value-replaced : length s₁ ≡ length s → {s₂ : List ℕ} → length s₂ ≡ length s₁ → {n : ℕ} → SetsField z s₁ s₂ Freq x n → ValueReplaced z s s₂ x v n
+  value-replaced l {s₂} l₁ {n} m =
       record {
         of = λ q b e a h.
             let f = seat-becomes l h in
-            let g = freqs (f .keeps) l₁ m .of q b (revalue v e) a (seat-valued h) in
+            let g = freq-set (f .keeps) l₁ m .of q b (revalue v e) a (seat-valued h) in
             let t : List Entry = b ++ (revalue v (withFreq n e) ∷ a) in
             becomes-then f (record { keeps = g .keeps; state = g .state ∙ ap (setQueue q t) (f .state) ∙ set-again q t (b ++ (revalue v e ∷ a)) (stateIn z s); rest = g .rest });
       }

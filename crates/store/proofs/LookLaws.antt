@@ -23,11 +23,11 @@ use Rattle.rules.proofs.PartsLaws.{total-append, total-mid}
 use Rattle.rules.proofs.EngineLaws.{place-is, place-none, split-is, split-none}
 use Rattle.store.specs.declared.QueueKind.{QueueKind}
 use Rattle.store.specs.declared.QueueKind.the-variants.{Small as Small·, Main as Main·}
-use Rattle.store.specs.declared.Spot.{Spot}
-use Rattle.store.specs.declared.Spot.the-variants.{Resident, Ghost, Absent}
+use Rattle.store.specs.declared.Lookup.{Lookup}
+use Rattle.store.specs.declared.Lookup.the-variants.{Resident, Ghost, Absent}
 use Rattle.store.specs.Holds.{listNo, ghostsNo, entryAt, keyAt, stateIn, Keeps, Held}
-use Rattle.store.specs.Seats.{queueKind, Seated, Buried, Oldest, Tail}
-use Rattle.store.specs.Looks.{Sits, Haunts, Lacks, Looks}
+use Rattle.store.specs.Seats.{queueKind, Seated, GhostSeated, Oldest, Tail}
+use Rattle.store.specs.Looks.{IsResident, IsGhost, Lacks, Looks}
 use Rattle.store.proofs.MapLaws.{map-append, total-map, total-none, total-some}
 use Rattle.store.proofs.ShownLaws.{queue-shown, ghosts-shown}
 
@@ -86,8 +86,8 @@ module _ {z : Shape} {s : List ℕ} (h : Held z s) where
   pool : Pooled z s
   pool = h .keeps .pooled
 
-  sits-in : (k x : ℕ) (q : Queue) → getD (cols z s Key) x 0 ≡ k → Among x (listsOf z (cols z s) (listNo q)) → Sits z s k q x
-  sits-in k x q e a =
+  resident-in : (k x : ℕ) (q : Queue) → getD (cols z s Key) x 0 ≡ k → Among x (listsOf z (cols z s) (listNo q)) → IsResident z s k q x
+  resident-in k x q e a =
       record {
         before = map (entryAt (cols z s)) (a .front);
         entry = entryAt (cols z s) x;
@@ -98,7 +98,7 @@ module _ {z : Shape} {s : List ℕ} (h : Held z s) where
             (queue-shown z s q ∙ ap (map (entryAt (cols z s))) (a .is) ∙ map-append (entryAt (cols z s)) (a .front) (x ∷ a .back)) (eq-eqb k (getD (cols z s Key) x 0) (sym e));
       }
 
-  ghost-at : (k x : ℕ) → getD (cols z s Key) x 0 ≡ k → Among x (listsOf z (cols z s) ghostsNo) → Haunts z s k x
+  ghost-at : (k x : ℕ) → getD (cols z s Key) x 0 ≡ k → Among x (listsOf z (cols z s) ghostsNo) → IsGhost z s k x
   ghost-at k x e a =
       let g = ghosts-shown z s ∙ ap (map (keyAt (cols z s))) (a .is) ∙ map-append (keyAt (cols z s)) (a .front) (x ∷ a .back) in
       let t = eq-eqb k (getD (cols z s Key) x 0) (sym e) in
@@ -106,7 +106,7 @@ module _ {z : Shape} {s : List ℕ} (h : Held z s) where
       record {
         before = map (keyAt (cols z s)) (a .front);
         after = map (keyAt (cols z s)) (a .back);
-        grave = record { front = a .front; back = a .back; is = a .is; before = refl; here = e; after = refl };
+        seat = record { front = a .front; back = a .back; is = a .is; before = refl; here = e; after = refl };
         place-is = place-none k (stateIn z s) (omega (arith, h .sound .once k, ap bit t));
         split-is =
             ap (splitBy (eqb k)) g
@@ -128,8 +128,8 @@ module _ {z : Shape} {s : List ℕ} (h : Held z s) where
       at-list : (q : QueueKind) → t ≡ listNo (queueKind q) → Looks z s k (Resident q x)
       at-list q n =
           record {
-            resident = λ p y w. rw (same-queue w, same-node w) at (sits-in k x (queueKind q) (hit .holds) (subst (λ i. Among x (listsOf z (cols z s) i)) n among));
-            haunt = λ y w. let b : _≡_ {A = ℕ} 0 1 = cc in absurd (omega arith);
+            resident = λ p y w. rw (same-queue w, same-node w) at (resident-in k x (queueKind q) (hit .holds) (subst (λ i. Among x (listsOf z (cols z s) i)) n among));
+            is-ghost = λ y w. let b : _≡_ {A = ℕ} 0 1 = cc in absurd (omega arith);
             absent = λ w. let b : _≡_ {A = ℕ} 0 1 = cc in absurd (omega arith);
           }
         where
@@ -149,7 +149,7 @@ module _ {z : Shape} {s : List ℕ} (h : Held z s) where
       look-ghost n =
           record {
             resident = λ p y q. let b : _≡_ {A = ℕ} 0 1 = cc in absurd (omega arith);
-            haunt = λ y q. subst (Haunts z s k) (same-node q) (ghost-at k x (hit .holds) (subst (λ i. Among x (listsOf z (cols z s) i)) n among));
+            is-ghost = λ y q. subst (IsGhost z s k) (same-node q) (ghost-at k x (hit .holds) (subst (λ i. Among x (listsOf z (cols z s) i)) n among));
             absent = λ q. let b : _≡_ {A = ℕ} 0 1 = cc in absurd (omega arith);
           }
         where
@@ -160,29 +160,29 @@ module _ {z : Shape} {s : List ℕ} (h : Held z s) where
     look-absent e =
         record {
           resident = λ p y q. let b : _≡_ {A = ℕ} 0 1 = cc in absurd (omega arith);
-          haunt = λ y q. let b : _≡_ {A = ℕ} 0 1 = cc in absurd (omega arith);
+          is-ghost = λ y q. let b : _≡_ {A = ℕ} 0 1 = cc in absurd (omega arith);
           absent = λ q. record { none = miss-places z s pool k (f .miss e) };
         }
 
 -- ---- from an answer to what the moves ask for
 
-pub looks-sits : {z : Shape} {s : List ℕ} {k : ℕ} {r : Spot} → Looks z s k r → {q : QueueKind} {x : ℕ} → r ≡ Resident q x → Sits z s k (queueKind q) x
-looks-sits l {q} {x} e = l .resident q x e
+pub looks-resident : {z : Shape} {s : List ℕ} {k : ℕ} {r : Lookup} → Looks z s k r → {q : QueueKind} {x : ℕ} → r ≡ Resident q x → IsResident z s k (queueKind q) x
+looks-resident l {q} {x} e = l .resident q x e
 
-pub looks-haunts : {z : Shape} {s : List ℕ} {k : ℕ} {r : Spot} → Looks z s k r → {x : ℕ} → r ≡ Ghost x → Haunts z s k x
-looks-haunts l {x} e = l .haunt x e
+pub looks-ghost : {z : Shape} {s : List ℕ} {k : ℕ} {r : Lookup} → Looks z s k r → {x : ℕ} → r ≡ Ghost x → IsGhost z s k x
+looks-ghost l {x} e = l .is-ghost x e
 
-pub looks-lacks : {z : Shape} {s : List ℕ} {k : ℕ} {r : Spot} → Looks z s k r → r ≡ Absent → Lacks z s k
+pub looks-lacks : {z : Shape} {s : List ℕ} {k : ℕ} {r : Lookup} → Looks z s k r → r ≡ Absent → Lacks z s k
 looks-lacks l e = l .absent e
 
-pub looks-seated : {z : Shape} {s : List ℕ} {k : ℕ} {r : Spot} → Looks z s k r → (q : QueueKind) {x : ℕ} → r ≡ Resident q x → Seated z s (queueKind q) x
+pub looks-seated : {z : Shape} {s : List ℕ} {k : ℕ} {r : Lookup} → Looks z s k r → (q : QueueKind) {x : ℕ} → r ≡ Resident q x → Seated z s (queueKind q) x
 looks-seated l q {x} e = let t = l .resident q x e in record { before = t .before; entry = t .entry; after = t .after; seat = t .seat }
 
-pub looks-buried : {z : Shape} {s : List ℕ} {k : ℕ} {r : Spot} → Looks z s k r → {x : ℕ} → r ≡ Ghost x → Buried z s x
-looks-buried {k = k} l {x} e = let t = l .haunt x e in record { before = t .before; key = k; after = t .after; grave = t .grave }
+pub looks-ghost-seated : {z : Shape} {s : List ℕ} {k : ℕ} {r : Lookup} → Looks z s k r → {x : ℕ} → r ≡ Ghost x → GhostSeated z s x
+looks-ghost-seated {k = k} l {x} e = let t = l .is-ghost x e in record { before = t .before; key = k; after = t .after; seat = t .seat }
 
-pub oldest-buried : {z : Shape} {s : List ℕ} {x : ℕ} → Oldest z s x → Buried z s x
-oldest-buried o = record { before = o .before; key = o .key; after = []; grave = o .grave }
+pub oldest-seated : {z : Shape} {s : List ℕ} {x : ℕ} → Oldest z s x → GhostSeated z s x
+oldest-seated o = record { before = o .before; key = o .key; after = []; seat = o .seat }
 
 pub tail-seated : {z : Shape} {s : List ℕ} {q : Queue} {x : ℕ} → Tail z s q x → Seated z s q x
 tail-seated t = record { before = t .before; entry = t .entry; after = []; seat = t .seat }

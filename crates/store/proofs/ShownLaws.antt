@@ -17,7 +17,7 @@ use Rattle.lists.specs.Lists.{Lists}
 use Rattle.lists.proofs.ListsLaws.{lists-view, lists-node, lists-once, lists-elsewhere, lists-ext}
 use Rattle.pool.specs.Carries.{Carries, listsOf, Pooled, Aside, Alike, Moved, Released, Filled}
 use Rattle.rules.specs.State.{Entry, Limits, State, Queue, Small, Main, fresh, withFreq, revalue, queueOf, setQueue, setGhosts, pushTo, putAt}
-use Rattle.store.specs.Holds.{listNo, ghostsNo, entryOf, entryAt, nodeKey, keyAt, limitsIn, shown, stateIn}
+use Rattle.store.specs.Holds.{listNo, ghostsNo, entryBy, entryAt, nodeKey, keyAt, limitsIn, shown, stateIn}
 use Rattle.store.proofs.MapLaws.{map-append, map-out, map-at}
 
 -- ---- columns that show the same
@@ -47,8 +47,8 @@ carried-alike z s s′ f k a =
     ∙ (λ i.
     record {
       limits = limits-aside (a .aside) i;
-      small = map (entryOf (a .keys i) (a .values i) (a .freqs i)) (f 1);
-      main = map (entryOf (a .keys i) (a .values i) (a .freqs i)) (f 2);
+      small = map (entryBy (a .keys i) (a .values i) (a .freqs i)) (f 1);
+      main = map (entryBy (a .keys i) (a .values i) (a .freqs i)) (f 2);
       ghosts = map (nodeKey (a .keys i)) (f 3);
     })
 
@@ -81,12 +81,12 @@ module _ (z : Shape) (s s′ : List ℕ) (a : List ℕ) (x : ℕ) (b : List ℕ)
       carried-alike z s s′ _ (m .of a b h) (m .alike) ∙ ap (λ l. pushTo Main (e x) (setQueue Main l (stateIn z s))) (map-append e a b)
 
   -- from a queue to the front of the ghosts
-  pub moved-down : (q : Queue) → listsOf z (cols z s) (listNo q) ≡ a ++ x ∷ b → Moved z s s′ (listNo q) ghostsNo x
+  pub moved-to-ghosts : (q : Queue) → listsOf z (cols z s) (listNo q) ≡ a ++ x ∷ b → Moved z s s′ (listNo q) ghostsNo x
       → stateIn z s′ ≡ setGhosts (k x ∷ stateIn z s .ghosts) (setQueue q (map e a ++ map e b) (stateIn z s))
   unfolding stateIn
-  moved-down Small h m =
+  moved-to-ghosts Small h m =
       carried-alike z s s′ _ (m .of a b h) (m .alike) ∙ ap (λ l. setGhosts (k x ∷ stateIn z s .ghosts) (setQueue Small l (stateIn z s))) (map-append e a b)
-  moved-down Main h m =
+  moved-to-ghosts Main h m =
       carried-alike z s s′ _ (m .of a b h) (m .alike) ∙ ap (λ l. setGhosts (k x ∷ stateIn z s .ghosts) (setQueue Main l (stateIn z s))) (map-append e a b)
 
   -- within the ghosts, to the front
@@ -255,8 +255,8 @@ module _ (z : Shape) (s s′ : List ℕ) (p : Pooled z s) (q : Queue) (a : List 
   below : x < z .room
   below = node-in z s s′ p q a x b h
 
-  pub marked : SetsField z s s′ Freq x v → stateIn z s′ ≡ putAt q (map (entryAt (cols z s)) a) (withFreq v e₁ ∷ []) (map (entryAt (cols z s)) b) (stateIn z s)
-  marked w =
+  pub freq-written : SetsField z s s′ Freq x v → stateIn z s′ ≡ putAt q (map (entryAt (cols z s)) a) (withFreq v e₁ ∷ []) (map (entryAt (cols z s)) b) (stateIn z s)
+  freq-written w =
       let l = below in
       let k : cols z s′ Key ≡ cols z s Key = rw (w .columns, over-at) in
       let u : cols z s′ Value ≡ cols z s Value = rw (w .columns, over-at) in

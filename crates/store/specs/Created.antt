@@ -3,10 +3,10 @@
 use mathlib.Core.Path.{_≡_}
 use mathlib.Core.List.{List}
 use Prim.Native.Nat.{ℕ}
-use Rattle.nodes.specs.Nodes.{Head, Rest, Cols, cols, over}
+use Rattle.nodes.specs.Nodes.{Head, Cols, cols, over}
 use Rattle.nodes.specs.declared.Shape.{Shape}
 use Rattle.rules.specs.State.{Limits, emptyAt}
-use Rattle.store.specs.Holds.{limitsIn, stateIn, shapeFor, Held}
+use Rattle.store.specs.Holds.{limitsIn, stateIn, restIn, shapeFor, Held}
 
 -- the columns with the limits L in the header
 unfoldable pub limited : Cols → Limits → Cols
@@ -20,7 +20,7 @@ pub record Limited (z : Shape) (s s′ : List ℕ) (L : Limits) : Type 0 where
 pub record SetUp (L : Limits) (s s′ : List ℕ) : Type 0 where
   pub held : Held (shapeFor L) s′
   pub state : stateIn (shapeFor L) s′ ≡ emptyAt L
-  pub rest : cols (shapeFor L) s′ Rest ≡ cols (shapeFor L) s Rest
+  pub rest : restIn (shapeFor L) s′ ≡ restIn (shapeFor L) s
 
 -- the header of s has the limits L, by whatever shape it is read
 pub record Stated (s : List ℕ) (L : Limits) : Type 0 where

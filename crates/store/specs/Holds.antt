@@ -20,11 +20,11 @@ abbrev pub ghostsNo : ℕ
 ghostsNo = 3
 
 -- the entry that a node carries, by the columns of keys, values and freqs
-abbrev pub entryOf : List ℕ → List ℕ → List ℕ → ℕ → Entry
-entryOf keys values freqs y = record { key = getD keys y 0; value = getD values y 0; freq = getD freqs y 0 }
+abbrev pub entryBy : List ℕ → List ℕ → List ℕ → ℕ → Entry
+entryBy keys values freqs y = record { key = getD keys y 0; value = getD values y 0; freq = getD freqs y 0 }
 
 abbrev pub entryAt : Cols → ℕ → Entry
-entryAt c = entryOf (c Key) (c Value) (c Freq)
+entryAt c = entryBy (c Key) (c Value) (c Freq)
 
 abbrev pub nodeKey : List ℕ → ℕ → ℕ
 nodeKey keys y = getD keys y 0
@@ -47,6 +47,10 @@ shown c f =
 -- the state that a store reads as
 unfoldable pub stateIn : Shape → List ℕ → State
 stateIn z s = shown (cols z s) (listsOf z (cols z s))
+
+-- what stands behind the store
+abbrev pub restIn : Shape → List ℕ → List ℕ
+restIn z s = cols z s Rest
 
 -- ---- when a store holds it
 
@@ -76,4 +80,4 @@ pub record Holds (s : List ℕ) (σ : State) : Type 0 where
 pub record Becomes (z : Shape) (s s′ : List ℕ) (τ : State) : Type 0 where
   pub keeps : Keeps z s′
   pub state : stateIn z s′ ≡ τ
-  pub rest : cols z s′ Rest ≡ cols z s Rest
+  pub rest : restIn z s′ ≡ restIn z s

@@ -8,13 +8,13 @@ use Rattle.nodes.specs.declared.Shape.{Shape}
 use Rattle.rules.specs.Parts.{found, splitBy}
 use Rattle.rules.specs.State.{Entry, State, Queue, places, place, nowhere, here}
 use Rattle.store.specs.declared.QueueKind.{QueueKind}
-use Rattle.store.specs.declared.Spot.{Spot}
-use Rattle.store.specs.declared.Spot.the-variants.{Resident, Ghost, Absent}
+use Rattle.store.specs.declared.Lookup.{Lookup}
+use Rattle.store.specs.declared.Lookup.the-variants.{Resident, Ghost, Absent}
 use Rattle.store.specs.Holds.{stateIn}
-use Rattle.store.specs.Seats.{queueKind, Seat, Grave}
+use Rattle.store.specs.Seats.{queueKind, Seat, GhostSeat}
 
 -- the key k is resident at the node x of the queue q
-pub record Sits (z : Shape) (s : List ℕ) (k : ℕ) (q : Queue) (x : ℕ) : Type 0 where
+pub record IsResident (z : Shape) (s : List ℕ) (k : ℕ) (q : Queue) (x : ℕ) : Type 0 where
   pub before : List Entry
   pub entry : Entry
   pub after : List Entry
@@ -23,10 +23,10 @@ pub record Sits (z : Shape) (s : List ℕ) (k : ℕ) (q : Queue) (x : ℕ) : Typ
   pub place-is : place k (stateIn z s) ≡ here q before entry after
 
 -- the key k is a ghost at the node x
-pub record Haunts (z : Shape) (s : List ℕ) (k x : ℕ) : Type 0 where
+pub record IsGhost (z : Shape) (s : List ℕ) (k x : ℕ) : Type 0 where
   pub before : List ℕ
   pub after : List ℕ
-  pub grave : Grave z s x before k after
+  pub seat : GhostSeat z s x before k after
   pub place-is : place k (stateIn z s) ≡ nowhere
   pub split-is : splitBy (eqb k) (stateIn z s .ghosts) ≡ found before k after
 
@@ -35,7 +35,7 @@ pub record Lacks (z : Shape) (s : List ℕ) (k : ℕ) : Type 0 where
   pub none : places k (stateIn z s) ≡ 0
 
 -- what a lookup of k says
-pub record Looks (z : Shape) (s : List ℕ) (k : ℕ) (r : Spot) : Type 0 where
-  pub resident : (q : QueueKind) (x : ℕ) → r ≡ Resident q x → Sits z s k (queueKind q) x
-  pub haunt : (x : ℕ) → r ≡ Ghost x → Haunts z s k x
+pub record Looks (z : Shape) (s : List ℕ) (k : ℕ) (r : Lookup) : Type 0 where
+  pub resident : (q : QueueKind) (x : ℕ) → r ≡ Resident q x → IsResident z s k (queueKind q) x
+  pub is-ghost : (x : ℕ) → r ≡ Ghost x → IsGhost z s k x
   pub absent : r ≡ Absent → Lacks z s k

@@ -40,7 +40,7 @@ pub record Tail (z : Shape) (s : List ℕ) (q : Queue) (x : ℕ) : Type 0 where
   pub seat : Seat z s q x before entry []
 
 -- the node x carries the ghost k, with the ghosts b before it and a after it
-pub record Grave (z : Shape) (s : List ℕ) (x : ℕ) (b : List ℕ) (k : ℕ) (a : List ℕ) : Type 0 where
+pub record GhostSeat (z : Shape) (s : List ℕ) (x : ℕ) (b : List ℕ) (k : ℕ) (a : List ℕ) : Type 0 where
   pub front : List ℕ
   pub back : List ℕ
   pub is : listsOf z (cols z s) ghostsNo ≡ front ++ x ∷ back
@@ -48,55 +48,63 @@ pub record Grave (z : Shape) (s : List ℕ) (x : ℕ) (b : List ℕ) (k : ℕ) (
   pub here : keyAt (cols z s) x ≡ k
   pub after : map (keyAt (cols z s)) back ≡ a
 
-pub record Buried (z : Shape) (s : List ℕ) (x : ℕ) : Type 0 where
+pub record GhostSeated (z : Shape) (s : List ℕ) (x : ℕ) : Type 0 where
   pub before : List ℕ
   pub key : ℕ
   pub after : List ℕ
-  pub grave : Grave z s x before key after
+  pub seat : GhostSeat z s x before key after
 
 -- the oldest one
 pub record Oldest (z : Shape) (s : List ℕ) (x : ℕ) : Type 0 where
   pub before : List ℕ
   pub key : ℕ
-  pub grave : Grave z s x before key []
+  pub seat : GhostSeat z s x before key []
 
 -- ---- what the moves are in the state
 
 -- the entry at x got the frequency n; it stays where it is
-pub record Marked (z : Shape) (s s′ : List ℕ) (x n : ℕ) : Type 0 where
+pub record FreqSet (z : Shape) (s s′ : List ℕ) (x n : ℕ) : Type 0 where
   pub of : (q : Queue) (b : List Entry) (e : Entry) (a : List Entry) → Seat z s q x b e a → Becomes z s s′ (putAt q b (withFreq n e ∷ []) a (stateIn z s))
 
 -- the entry at x got the value v and then the frequency n
-pub record Replaced (z : Shape) (s s′ : List ℕ) (x v n : ℕ) : Type 0 where
+pub record ValueReplaced (z : Shape) (s s′ : List ℕ) (x v n : ℕ) : Type 0 where
   pub of : (q : Queue) (b : List Entry) (e : Entry) (a : List Entry) → Seat z s q x b e a → Becomes z s s′ (putAt q b (revalue v (withFreq n e) ∷ []) a (stateIn z s))
 
 -- the entry at x left its queue
-pub record Freed (z : Shape) (s s′ : List ℕ) (q : Queue) (x : ℕ) : Type 0 where
+pub record EntryRemoved (z : Shape) (s s′ : List ℕ) (q : Queue) (x : ℕ) : Type 0 where
   pub of : (b : List Entry) (e : Entry) (a : List Entry) → Seat z s q x b e a → Becomes z s s′ (setQueue q (b ++ a) (stateIn z s))
 
 -- the entry at x went to Main's head with the frequency n
-pub record SentBack (z : Shape) (s s′ : List ℕ) (q : Queue) (x n : ℕ) : Type 0 where
+pub record Reattached (z : Shape) (s s′ : List ℕ) (q : Queue) (x n : ℕ) : Type 0 where
   pub of : (b : List Entry) (e : Entry) (a : List Entry) → Seat z s q x b e a → Becomes z s s′ (pushTo Main (withFreq n e) (setQueue q (b ++ a) (stateIn z s)))
 
 -- the entry at x left its queue, and its node is the newest ghost
-pub record Laid (z : Shape) (s s′ : List ℕ) (q : Queue) (x : ℕ) : Type 0 where
+pub record DetachedToGhosts (z : Shape) (s s′ : List ℕ) (q : Queue) (x : ℕ) : Type 0 where
   pub of : (b : List Entry) (e : Entry) (a : List Entry) → Seat z s q x b e a → Becomes z s s′ (setGhosts (e .key ∷ stateIn z s .ghosts) (setQueue q (b ++ a) (stateIn z s)))
 
 -- the ghost at x was taken off
-pub record Exhumed (z : Shape) (s s′ : List ℕ) (x : ℕ) : Type 0 where
-  pub of : (b : List ℕ) (k : ℕ) (a : List ℕ) → Grave z s x b k a → Becomes z s s′ (setGhosts (b ++ a) (stateIn z s))
+pub record GhostRemoved (z : Shape) (s s′ : List ℕ) (x : ℕ) : Type 0 where
+  pub of : (b : List ℕ) (k : ℕ) (a : List ℕ) → GhostSeat z s x b k a → Becomes z s s′ (setGhosts (b ++ a) (stateIn z s))
 
 -- the ghost at x went to the front
 pub record Fronted (z : Shape) (s s′ : List ℕ) (x : ℕ) : Type 0 where
-  pub of : (b : List ℕ) (k : ℕ) (a : List ℕ) → Grave z s x b k a → Becomes z s s′ (setGhosts (k ∷ (b ++ a)) (stateIn z s))
+  pub of : (b : List ℕ) (k : ℕ) (a : List ℕ) → GhostSeat z s x b k a → Becomes z s s′ (setGhosts (k ∷ (b ++ a)) (stateIn z s))
+
+-- the pair of k and v, whose key stood nowhere, went to the head of the queue q with frequency 0
+pub record AttachedHead (z : Shape) (s s′ : List ℕ) (q : Queue) (k v : ℕ) : Type 0 where
+  pub becomes : Becomes z s s′ (pushTo q (fresh k v) (stateIn z s))
+
+-- the key k, which stood nowhere, went to the front of the ghosts
+pub record PushedFront (z : Shape) (s s′ : List ℕ) (k : ℕ) : Type 0 where
+  pub becomes : Becomes z s s′ (setGhosts (k ∷ stateIn z s .ghosts) (stateIn z s))
 
 -- there is a node for one more resident, or ghost, with the key k
-pub record CanAdmit (z : Shape) (s : List ℕ) (k : ℕ) : Type 0 where
+pub record CanAttachHead (z : Shape) (s : List ℕ) (k : ℕ) : Type 0 where
   pub none : places k (stateIn z s) ≡ 0
   pub less : residents (stateIn z s) < stateIn z s .limits .capacity
   pub few : length (stateIn z s .ghosts) ≤ stateIn z s .limits .ghostLimit
 
-pub record CanHaunt (z : Shape) (s : List ℕ) (k : ℕ) : Type 0 where
+pub record CanPushFront (z : Shape) (s : List ℕ) (k : ℕ) : Type 0 where
   pub none : places k (stateIn z s) ≡ 0
   pub within : residents (stateIn z s) ≤ stateIn z s .limits .capacity
   pub fewer : length (stateIn z s .ghosts) < stateIn z s .limits .ghostLimit

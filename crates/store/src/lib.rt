@@ -1,19 +1,25 @@
-// How a store reads as a state (01, "The state"; docs/STORE.md): limits and lengths, where a key stands, and the moves of a node, each said in
-// terms of the state. The crates above see no column: they follow the rules on the state that the store holds.
+// The one door to a store (01, "The state"; docs/STORE.md): limits and lengths, where a key stands, the entry at a node, and the moves of a node, each
+// said in terms of the state that the store holds. The crates above call no crate below this one, and see no field: they hand over and get guest and
+// physical blocks, which are different types down to the field that is written.
 ghost use mathlib.Core.Path.{_≡_};
 ghost use Prim.Native.Nat.{_+_, _≤_, _<_};
 ghost use lib.ListN.{length};
+ghost use Rattle.cells.specs.Decides.{Decides};
 ghost use Rattle.nodes.specs.Nodes.{Room};
-ghost use Rattle.rules.specs.State.{Queue, queueOf, fresh, pushTo, setGhosts, Fine};
+ghost use Rattle.pool.specs.Carries.{Pooled};
+ghost use Rattle.rules.specs.State.{Queue, queueOf, Fine};
 ghost use Rattle.rules.specs.Verdict.{storeBytes};
 ghost use Rattle.sizing.specs.Answers.{limitsOf};
-ghost use mathlib.Core.List.{_∷_};
-ghost use Rattle.store.specs.Holds.{listNo, ghostsNo, stateIn, shapeFor, Keeps, Held, Becomes};
-ghost use Rattle.store.specs.Seats.{queueKind, Seated, Tail, Buried, Oldest, Marked, Replaced, Freed, SentBack, Laid, Exhumed, Fronted, CanAdmit, CanHaunt};
+ghost use Rattle.store.specs.Holds.{listNo, ghostsNo, stateIn, shapeFor, Keeps, Held};
+ghost use Rattle.store.specs.Entries.{GetsEntry, GetsGhost, HoldsResident};
+ghost use Rattle.store.specs.Seats.{queueKind, Seated, Tail, GhostSeated, Oldest, CanAttachHead, AttachedHead, CanPushFront, PushedFront};
+ghost use Rattle.store.specs.Seats.{FreqSet, ValueReplaced, EntryRemoved, Reattached, DetachedToGhosts, GhostRemoved, Fronted};
 ghost use Rattle.store.specs.Looks.{Looks};
 ghost use Rattle.store.specs.Created.{Limited, SetUp, Stated};
 use key_index::Found;
-use nodes::Shape;
+pub use nodes::Shape;
+use rules::GuestBlock;
+use rules::PhysicalBlock;
 use sizing::Limits;
 
 // The two queues of residents.
@@ -22,8 +28,15 @@ pub enum QueueKind {
     Main,
 }
 
+// An entry: the pair and its frequency.
+pub struct Entry {
+    pub key: GuestBlock,
+    pub value: PhysicalBlock,
+    pub freq: usize,
+}
+
 // Where a key stands: resident at a node, a ghost at a node, or neither.
-pub enum Spot {
+pub enum Lookup {
     Resident(QueueKind, usize),
     Ghost(usize),
     Absent,
@@ -37,7 +50,7 @@ const SMALL_LIMIT: usize = 1;
 const GHOST_LIMIT: usize = 2;
 
 // The number of a queue's list.
-pub fn list_of(q: QueueKind) -> usize
+fn list_of(q: QueueKind) -> usize
     ensures { λ r. ⌜ r ≡ listNo (queueKind q) ⌝ }
     ensures { λ r. ⌜ r < 4 ⌝ }
 {
@@ -76,7 +89,7 @@ pub fn len_of(s: &[u8], z: Shape, q: QueueKind) -> u64
     lists::length_of(s, z, list_of(q))
 }
 
-pub fn ghosts_len(s: &[u8], z: Shape) -> u64
+pub fn ghost_len(s: &[u8], z: Shape) -> u64
     requires { ⌜ Keeps z (now s) ⌝ }
     ensures { λ r. ⌜ r ≡ length (stateIn z (now (s .entry)) .ghosts) ⌝ }
 {
@@ -100,89 +113,138 @@ pub fn oldest_of(s: &[u8], z: Shape) -> usize
 }
 
 // One walk along the key's chain tells all three apart, since residents and ghosts share the index.
-pub fn look(s: &[u8], z: Shape, k: u64) -> Spot
+pub fn look(s: &[u8], z: Shape, k: GuestBlock) -> Lookup
     requires { ⌜ Held z (now s) ⌝ }
-    ensures { λ r. ⌜ Looks z (now (s .entry)) k r ⌝ }
+    ensures { λ r. ⌜ Looks z (now (s .entry)) (k .0) r ⌝ }
 {
-    let found = key_index::find(s, z, k);
+    let found = key_index::find(s, z, k.0);
     match found {
         Found::At(x) => {
             let t = nodes::queue_of(s, z, x);
             if t == lists::GHOSTS {
-                return Spot::Ghost(x);
+                return Lookup::Ghost(x);
             }
             if t == lists::SMALL {
-                return Spot::Resident(QueueKind::Small, x);
+                return Lookup::Resident(QueueKind::Small, x);
             }
-            Spot::Resident(QueueKind::Main, x)
+            Lookup::Resident(QueueKind::Main, x)
         }
-        Found::Nothing => Spot::Absent,
+        Found::Nothing => Lookup::Absent,
     }
+}
+
+// The entry at a node.
+pub fn entry_at(s: &[u8], z: Shape, x: usize) -> Entry
+    requires { ⌜ Room z (now s) × (x < z .room) ⌝ }
+    ensures { λ r. ⌜ GetsEntry z (now (s .entry)) x r ⌝ }
+{
+    Entry {
+        key: GuestBlock(nodes::key_of(s, z, x)),
+        value: PhysicalBlock(nodes::value_of(s, z, x)),
+        freq: nodes::freq_of(s, z, x),
+    }
+}
+
+// The ghost at a node.
+pub fn ghost_at(s: &[u8], z: Shape, x: usize) -> GuestBlock
+    requires { ⌜ Room z (now s) × (x < z .room) ⌝ }
+    ensures { λ r. ⌜ GetsGhost z (now (s .entry)) x r ⌝ }
+{
+    GuestBlock(nodes::key_of(s, z, x))
+}
+
+// Whether a node says that it is in one of the two queues.
+pub fn holds_resident(s: &[u8], z: Shape, x: usize) -> bool
+    requires { ⌜ Room z (now s) × (x < z .room) ⌝ }
+    ensures { λ r. ⌜ Decides (HoldsResident z (now (s .entry)) x) r ⌝ }
+{
+    let list = nodes::queue_of(s, z, x);
+    if list == lists::SMALL {
+        return true;
+    }
+    list == lists::MAIN
+}
+
+// Whether the lists and the index of bytes that nobody vouches for are as they should be.
+pub fn check_lists_and_index(s: &[u8], z: Shape) -> bool
+    requires { ⌜ Room z (now s) ⌝ }
+    ensures { λ r. ⌜ Decides (Pooled z (now (s .entry))) r ⌝ }
+{
+    pool::check_pool(s, z)
 }
 
 // The entry at a node gets another frequency.
 pub fn set_freq(s: &mut [u8], z: Shape, x: usize, n: usize)
     requires { ⌜ Keeps z (now s) × (x < z .room) × (n < 256) ⌝ }
-    ensures { λ _. ⌜ Marked z (now (s .entry)) (now (s .exit)) x n ⌝ }
+    ensures { λ _. ⌜ FreqSet z (now (s .entry)) (now (s .exit)) x n ⌝ }
 {
     nodes::set_freq(s, z, x, n);
 }
 
+// The entry at a node gets another value and another frequency.
+pub fn replace(s: &mut [u8], z: Shape, x: usize, v: PhysicalBlock, n: usize)
+    requires { ⌜ Keeps z (now s) × (x < z .room) × (n < 256) ⌝ }
+    ensures { λ _. ⌜ ValueReplaced z (now (s .entry)) (now (s .exit)) x (v .0) n ⌝ }
+{
+    nodes::set_value(s, z, x, v.0);
+    nodes::set_freq(s, z, x, n);
+}
+
 // The entry of a queue at a node leaves; the node is free.
-pub fn release(s: &mut [u8], z: Shape, q: QueueKind, x: usize)
+pub fn remove_at(s: &mut [u8], z: Shape, q: QueueKind, x: usize)
     requires { ⌜ Keeps z (now s) × Seated z (now s) (queueKind q) x ⌝ }
-    ensures { λ _. ⌜ Freed z (now (s .entry)) (now (s .exit)) (queueKind q) x ⌝ }
+    ensures { λ _. ⌜ EntryRemoved z (now (s .entry)) (now (s .exit)) (queueKind q) x ⌝ }
 {
     pool::release(s, z, list_of(q), x);
 }
 
 // The entry of a queue at a node goes to Main's head with another frequency.
-pub fn send_back(s: &mut [u8], z: Shape, q: QueueKind, x: usize, n: usize)
+pub fn reattach_main_head(s: &mut [u8], z: Shape, q: QueueKind, x: usize, n: usize)
     requires { ⌜ Keeps z (now s) × Seated z (now s) (queueKind q) x × (n < 256) ⌝ }
-    ensures { λ _. ⌜ SentBack z (now (s .entry)) (now (s .exit)) (queueKind q) x n ⌝ }
+    ensures { λ _. ⌜ Reattached z (now (s .entry)) (now (s .exit)) (queueKind q) x n ⌝ }
 {
     pool::move_to(s, z, list_of(q), lists::MAIN, x);
     nodes::set_freq(s, z, x, n);
 }
 
 // The entry of a queue at a node leaves, and the node becomes the newest ghost: its key is in the index already.
-pub fn lay_down(s: &mut [u8], z: Shape, q: QueueKind, x: usize)
+pub fn detach_to_ghosts(s: &mut [u8], z: Shape, q: QueueKind, x: usize)
     requires { ⌜ Keeps z (now s) × Seated z (now s) (queueKind q) x ⌝ }
-    ensures { λ _. ⌜ Laid z (now (s .entry)) (now (s .exit)) (queueKind q) x ⌝ }
+    ensures { λ _. ⌜ DetachedToGhosts z (now (s .entry)) (now (s .exit)) (queueKind q) x ⌝ }
 {
     pool::move_to(s, z, list_of(q), lists::GHOSTS, x);
 }
 
 // A new pair goes to the head of a queue with frequency 0.
-pub fn admit(s: &mut [u8], z: Shape, q: QueueKind, k: u64, v: u64)
-    requires { ⌜ Keeps z (now s) × CanAdmit z (now s) k ⌝ }
-    ensures { λ _. ⌜ Becomes z (now (s .entry)) (now (s .exit)) (pushTo (queueKind q) (fresh k v) (stateIn z (now (s .entry)))) ⌝ }
+pub fn attach_head(s: &mut [u8], z: Shape, q: QueueKind, k: GuestBlock, v: PhysicalBlock)
+    requires { ⌜ Keeps z (now s) × CanAttachHead z (now s) (k .0) ⌝ }
+    ensures { λ _. ⌜ AttachedHead z (now (s .entry)) (now (s .exit)) (queueKind q) (k .0) (v .0) ⌝ }
 {
-    pool::fill(s, z, list_of(q), k, v);
+    pool::fill(s, z, list_of(q), k.0, v.0);
 }
 
 // The ghost at a node is taken off.
-pub fn exhume(s: &mut [u8], z: Shape, x: usize)
-    requires { ⌜ Keeps z (now s) × Buried z (now s) x ⌝ }
-    ensures { λ _. ⌜ Exhumed z (now (s .entry)) (now (s .exit)) x ⌝ }
+pub fn remove_ghost(s: &mut [u8], z: Shape, x: usize)
+    requires { ⌜ Keeps z (now s) × GhostSeated z (now s) x ⌝ }
+    ensures { λ _. ⌜ GhostRemoved z (now (s .entry)) (now (s .exit)) x ⌝ }
 {
     pool::release(s, z, lists::GHOSTS, x);
 }
 
 // The ghost at a node goes to the front.
-pub fn to_front(s: &mut [u8], z: Shape, x: usize)
-    requires { ⌜ Keeps z (now s) × Buried z (now s) x ⌝ }
+pub fn move_to_front(s: &mut [u8], z: Shape, x: usize)
+    requires { ⌜ Keeps z (now s) × GhostSeated z (now s) x ⌝ }
     ensures { λ _. ⌜ Fronted z (now (s .entry)) (now (s .exit)) x ⌝ }
 {
     pool::move_to(s, z, lists::GHOSTS, lists::GHOSTS, x);
 }
 
 // A new ghost goes in front. Its node's value is of no account.
-pub fn haunt(s: &mut [u8], z: Shape, k: u64)
-    requires { ⌜ Keeps z (now s) × CanHaunt z (now s) k ⌝ }
-    ensures { λ _. ⌜ Becomes z (now (s .entry)) (now (s .exit)) (setGhosts (k ∷ stateIn z (now (s .entry)) .ghosts) (stateIn z (now (s .entry)))) ⌝ }
+pub fn push_front(s: &mut [u8], z: Shape, k: GuestBlock)
+    requires { ⌜ Keeps z (now s) × CanPushFront z (now s) (k .0) ⌝ }
+    ensures { λ _. ⌜ PushedFront z (now (s .entry)) (now (s .exit)) (k .0) ⌝ }
 {
-    pool::fill(s, z, lists::GHOSTS, k, 0);
+    pool::fill(s, z, lists::GHOSTS, k.0, 0);
 }
 
 // The numbers of nodes and of buckets that a store has by its limits.
@@ -231,13 +293,4 @@ pub fn limits_of(s: &[u8]) -> Limits
         small_limit: nodes::head_of(s, least, SMALL_LIMIT),
         ghost_limit: nodes::head_of(s, least, GHOST_LIMIT),
     }
-}
-
-// The entry at a node gets another value and another frequency.
-pub fn replace(s: &mut [u8], z: Shape, x: usize, v: u64, n: usize)
-    requires { ⌜ Keeps z (now s) × (x < z .room) × (n < 256) ⌝ }
-    ensures { λ _. ⌜ Replaced z (now (s .entry)) (now (s .exit)) x v n ⌝ }
-{
-    nodes::set_value(s, z, x, v);
-    nodes::set_freq(s, z, x, n);
 }

@@ -1,7 +1,7 @@
 -- `evict::cooled` meets its contract.
 -- Assumes nothing.
 use borrow.Author.Needs.{needs}
-use Rattle.evict.proofs.StepLaws.{cool-small, cool-main, cool-none}
+use Rattle.evict.proofs.PopLaws.{cool-small, cool-main, cool-none}
 use Rattle.evict.proofs.cooled.Statement.{statement}
 use Rattle.evict.proofs.cooled.Tie as tie
 

@@ -10,7 +10,6 @@ step-spec =
     tie.close
     (tie.spec
     (λ c κs. search needs)
-    (λ c κs. (search needs, search picks-some))
-    (λ c κs. search needs)
+    (λ c κs. (search needs, search needs, search picks-some))
     (λ c. search needs)
     (λ c. search needs))

@@ -1,7 +1,7 @@
 -- `ghost_list::record_new` meets its contract.
 -- Assumes nothing.
 use borrow.Author.Needs.{needs}
-use Rattle.ghost_list.proofs.GhostLaws.{can-haunt, recorded-new}
+use Rattle.ghost_list.proofs.GhostLaws.{can-push, recorded-new}
 use Rattle.ghost_list.proofs.record_new.Statement.{statement}
 use Rattle.ghost_list.proofs.record_new.Tie as tie
 
@@ -10,6 +10,6 @@ record-new-spec =
     tie.close
     (tie.spec
     (λ c κs. search needs)
-    (λ c κs. (search needs, search can-haunt))
+    (λ c κs. (search needs, search can-push))
     (λ c. search needs)
     (λ c. search recorded-new))

@@ -1,7 +1,7 @@
 -- `ghost_list::remove` meets its contract.
 -- Assumes nothing.
 use borrow.Author.Needs.{needs}
-use Rattle.store.proofs.LookLaws.{looks-buried}
+use Rattle.store.proofs.LookLaws.{looks-ghost-seated}
 use Rattle.ghost_list.proofs.GhostLaws.{took-there, took-resident, took-absent}
 use Rattle.ghost_list.proofs.remove.Statement.{statement}
 use Rattle.ghost_list.proofs.remove.Tie as tie
@@ -12,7 +12,7 @@ remove-spec =
     (tie.spec
     (λ c κs. search needs)
     (λ c. search needs)
-    (λ c κs. (search needs, search looks-buried))
+    (λ c κs. (search needs, search looks-ghost-seated))
     (λ c. search needs)
     (λ c. search needs)
     (λ c. search needs)

@@ -1,7 +1,8 @@
 -- `requests::first` meets its contract.
 -- Assumes nothing.
 use borrow.Author.Needs.{needs}
-use Rattle.requests.proofs.EvictOneLaws.{first-none, first-out, first-back, back-held, back-some}
+use Rattle.evict.proofs.PopLaws.{cold-keeps, cold-seated}
+use Rattle.requests.proofs.EvictOneLaws.{first-out, first-back, back-held, back-some}
 use Rattle.requests.proofs.first.Statement.{statement}
 use Rattle.requests.proofs.first.Tie as tie
 
@@ -10,14 +11,11 @@ first-spec =
     tie.close
     (tie.spec
     (λ c κs. search needs)
-    (λ c κs. search needs)
-    (λ c. search needs)
-    (λ c. search first-none)
-    (λ c κs. search needs)
-    (λ c. search needs)
     (λ c. search needs)
     (λ c κs. (search back-held, search back-some))
     (λ c. search needs)
-    (λ c. search first-out)
+    (λ c κs. (search cold-keeps, search cold-seated))
     (λ c. search needs)
-    (λ c. search first-back))
+    (λ c. search first-back)
+    (λ c. search needs)
+    (λ c. search first-out))

@@ -1,7 +1,7 @@
 -- `requests::get` meets its contract.
 -- Assumes nothing.
 use borrow.Author.Needs.{needs}
-use Rattle.requests.proofs.KeyLaws.{nowhere-ghost, nowhere-absent, get-miss, resident-node, resident-reach, get-hit}
+use Rattle.requests.proofs.KeyLaws.{nowhere-ghost, nowhere-absent, get-miss, resident-node, get-hit}
 use Rattle.requests.proofs.get.Statement.{statement}
 use Rattle.requests.proofs.get.Tie as tie
 
@@ -11,8 +11,7 @@ get-spec =
     (tie.spec
     (λ c κs. search needs)
     (λ c. search needs)
-    (λ c κs. (search needs, search resident-reach))
-    (λ c κs. (search needs, search resident-reach))
+    (λ c κs. (search needs, search resident-node))
     (λ c κs. search needs)
     (λ c κs. (search needs, search resident-node, search needs))
     (λ c κs. search needs)

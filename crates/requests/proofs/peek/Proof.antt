@@ -1,7 +1,7 @@
 -- `requests::peek` meets its contract.
 -- Assumes nothing.
 use borrow.Author.Needs.{needs}
-use Rattle.requests.proofs.KeyLaws.{nowhere-ghost, nowhere-absent, peek-miss, resident-reach, peek-hit}
+use Rattle.requests.proofs.KeyLaws.{nowhere-ghost, nowhere-absent, peek-miss, resident-node, peek-hit}
 use Rattle.requests.proofs.peek.Statement.{statement}
 use Rattle.requests.proofs.peek.Tie as tie
 
@@ -11,7 +11,7 @@ peek-spec =
     (tie.spec
     (λ c κs. search needs)
     (λ c. search needs)
-    (λ c κs. (search needs, search resident-reach))
+    (λ c κs. (search needs, search resident-node))
     (λ c κs. search needs)
     (λ c. search needs)
     (λ c κs. search needs)

@@ -2,7 +2,7 @@
 -- Assumes nothing.
 use borrow.Author.Needs.{needs}
 use Rattle.store.proofs.LookLaws.{looks-seated}
-use Rattle.requests.proofs.KeyLaws.{nowhere-ghost, nowhere-absent, remove-miss, resident-reach, remove-gone}
+use Rattle.requests.proofs.KeyLaws.{nowhere-ghost, nowhere-absent, remove-miss, resident-node, remove-gone}
 use Rattle.requests.proofs.remove.Statement.{statement}
 use Rattle.requests.proofs.remove.Tie as tie
 
@@ -12,7 +12,7 @@ remove-spec =
     (tie.spec
     (λ c κs. search needs)
     (λ c. search needs)
-    (λ c κs. (search needs, search resident-reach))
+    (λ c κs. (search needs, search resident-node))
     (λ c κs. (search needs, search looks-seated))
     (λ c κs. search needs)
     (λ c. search needs)

@@ -1,7 +1,7 @@
 -- `soundness::is_cool` meets its contract: the frequency first, then the list.
 -- Assumes nothing.
 use borrow.Author.Needs.{needs}
-use Rattle.soundness.proofs.CheckLaws.{freq-cool, small-warm, main-warm, none-warm}
+use Rattle.soundness.proofs.CheckLaws.{freq-cool, resident-warm}
 use Rattle.soundness.proofs.is_cool.Statement.{statement}
 use Rattle.soundness.proofs.is_cool.Tie as tie
 
@@ -13,6 +13,4 @@ is-cool-spec =
     (λ c. search needs)
     (λ c. search freq-cool)
     (λ c κs. search needs)
-    (λ c. search small-warm)
-    (λ c. search main-warm)
-    (λ c. search none-warm))
+    (λ c. search resident-warm))

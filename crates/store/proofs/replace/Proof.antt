@@ -1,7 +1,7 @@
 -- `store::replace` meets its contract.
 -- Assumes nothing.
 use borrow.Author.Needs.{needs}
-use Rattle.store.proofs.KeepsLaws.{replaced}
+use Rattle.store.proofs.KeepsLaws.{value-replaced}
 use Rattle.store.proofs.replace.Statement.{statement}
 use Rattle.store.proofs.replace.Tie as tie
 
@@ -12,4 +12,4 @@ replace-spec =
     (λ c κs. search needs)
     (λ c κs. search needs)
     (λ c. search needs)
-    (λ c. search replaced))
+    (λ c. search value-replaced))

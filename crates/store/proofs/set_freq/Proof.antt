@@ -1,7 +1,7 @@
 -- `store::set_freq` meets its contract.
 -- Assumes nothing.
 use borrow.Author.Needs.{needs}
-use Rattle.store.proofs.KeepsLaws.{freqs}
+use Rattle.store.proofs.KeepsLaws.{freq-set}
 use Rattle.store.proofs.set_freq.Statement.{statement}
 use Rattle.store.proofs.set_freq.Tie as tie
 
@@ -11,4 +11,4 @@ set-freq-spec =
     (tie.spec
     (λ c κs. search needs)
     (λ c. search needs)
-    (λ c. search freqs))
+    (λ c. search freq-set))

@@ -10,7 +10,6 @@ use lib.Dec.{eqb, ltb, leb}
 use lib.ListN.{getD}
 use borrow.Author.Tests.{eq-eqb, ne-eqb, eqb-true, ltb-false, le-ltb, lt-leb}
 use Rattle.cells.specs.Cells.{Bytes}
-use Rattle.cells.specs.Decides.{All}
 use Rattle.nodes.specs.Nodes.{Key, Value, Queue as Tag, Freq, Cols, cols}
 use Rattle.nodes.specs.declared.Shape.{Shape}
 use Rattle.nodes.proofs.NodesLaws.{cols-lt}
@@ -23,10 +22,10 @@ use Rattle.pool.proofs.PoolLaws.{pooled-node}
 use Rattle.rules.specs.Parts.{bit, total, Split, missing, found, splitBy}
 use Rattle.rules.specs.State.{Entry, Queue, Small, Main, maxFreq, words, keyIs, places, tooWarm, wide, tooWide}
 use Rattle.rules.proofs.PartsLaws.{total-append, total-mid, Splits, split-law}
-use Rattle.store.specs.Holds.{listNo, ghostsNo, entryAt, keyAt, stateIn}
+use Rattle.store.specs.Holds.{listNo, entryAt, keyAt, stateIn}
+use Rattle.store.specs.Entries.{HoldsResident}
 use Rattle.store.proofs.MapLaws.{total-map, total-none, total-but, total-some}
 use Rattle.store.proofs.KeepsLaws.{kind, ghost-kind}
-use Rattle.soundness.specs.Checks.{Cool}
 
 -- ---- no key stands twice
 
@@ -133,12 +132,13 @@ module _ (z : Shape) (s : List ℕ) (p : Pooled z s) where
         total-map (λ (e : Entry). bit (ltb maxFreq (e .freq))) (entryAt (cols z s)) (listsOf z (cols z s) 2),
       )
 
-  cool-queue : All (Cool z s) (z .room) → (q : Queue) → warm q ≡ 0
+  cool-queue : ((y : ℕ) → y < z .room → HoldsResident z s y → freqAt y ≤ maxFreq) → (q : Queue) → warm q ≡ 0
   cool-queue h q =
       total-none (λ y. bit (ltb maxFreq (freqAt y))) (listsOf z (cols z s) (listNo q))
-      (λ y m. ap bit (le-ltb maxFreq (freqAt y) (h .all y (pooled-node p (kind q) m) .cool q (among-tag (p .carries) (kind q) m))))
+      (λ y m. ap bit (le-ltb maxFreq (freqAt y) (h y (pooled-node p (kind q) m) (record { queue = q; names = among-tag (p .carries) (kind q) m }))))
 
-  pub nodes-cool : All (Cool z s) (z .room) → tooWarm (stateIn z s) ≡ 0
+  -- residents' nodes that are cool make a state that is
+  pub nodes-cool : ((y : ℕ) → y < z .room → HoldsResident z s y → freqAt y ≤ maxFreq) → tooWarm (stateIn z s) ≡ 0
   nodes-cool h = omega (arith, warm-shown, cool-queue h Small, cool-queue h Main)
 
   queue-cool : tooWarm (stateIn z s) ≡ 0 → (q : Queue) → warm q ≡ 0
@@ -149,13 +149,12 @@ module _ (z : Shape) (s : List ℕ) (p : Pooled z s) where
   cool-by n true e h = absurd (omega arith)
   cool-by n false e h = ltb-false maxFreq n e
 
-  pub cool-nodes : tooWarm (stateIn z s) ≡ 0 → All (Cool z s) (z .room)
-  cool-nodes h =
-      record {
-        all = λ y b.
-            record {
-              cool = λ q e.
-                  cool-by (freqAt y) (ltb maxFreq (freqAt y)) refl
-                  (omega (arith, queue-cool h q, total-some (λ x. bit (ltb maxFreq (freqAt x))) (lists-place (p .carries .lists) (p .carries .whole) y b e)));
-            };
-      }
+  -- and the other way
+  pub cool-nodes : tooWarm (stateIn z s) ≡ 0 → (y : ℕ) → y < z .room → HoldsResident z s y → freqAt y ≤ maxFreq
+  cool-nodes h y b r =
+      cool-by (freqAt y) (ltb maxFreq (freqAt y)) refl
+      (omega (
+        arith,
+        queue-cool h (r .queue),
+        total-some (λ x. bit (ltb maxFreq (freqAt x))) (lists-place (p .carries .lists) (p .carries .whole) y b (r .names)),
+      ))

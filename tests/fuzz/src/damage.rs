@@ -2,7 +2,7 @@
 
 use crate::edit::Edit;
 use crate::layout::{
-    CAPACITY, CHAIN, FIELDS, FREE, Field, GHOST_LIMIT, GHOSTS, HEADER, KEY, LENGTHS, Layout, MARK, NEXT, PREV, QUEUE,
+    CAPACITY, CHAIN, FIELDS, FREE, FREQ, Field, GHOST_LIMIT, GHOSTS, HEADER, KEY, LENGTHS, Layout, NEXT, PREV, QUEUE,
     Read, SENTINELS, SMALL_LIMIT, VALUE, header_cell,
 };
 use common::Random;
@@ -87,7 +87,7 @@ pub fn inflict(kind: Damage, store: &mut [u8], other: &[u8], random: &mut Random
         Damage::Length => set_header(store, LENGTHS + random.index(4), random),
         Damage::Link => lead_elsewhere(store, layout, random),
         Damage::Tag => store[layout.field(random.index(layout.nodes), QUEUE).start] = random.below(6) as u8,
-        Damage::Frequency => store[layout.field(random.index(layout.nodes), MARK).start] = random.below(9) as u8,
+        Damage::Frequency => store[layout.field(random.index(layout.nodes), FREQ).start] = random.below(9) as u8,
         Damage::CopiedKey => copy_key(store, layout, random),
         Damage::SwappedField => swap_fields(store, layout, random),
         Damage::SwappedNodes => {
@@ -191,11 +191,11 @@ fn garble_open_bytes(store: &mut [u8], layout: Layout, random: &mut Random) {
     for node in 0..layout.nodes + SENTINELS {
         let list = store[layout.field(node, QUEUE).start];
         let open: &[Field] = if node >= layout.nodes {
-            &[KEY, VALUE, CHAIN, QUEUE, MARK]
+            &[KEY, VALUE, CHAIN, QUEUE, FREQ]
         } else if list == FREE {
-            &[KEY, VALUE, CHAIN, MARK]
+            &[KEY, VALUE, CHAIN, FREQ]
         } else if list == GHOSTS {
-            &[VALUE, MARK]
+            &[VALUE, FREQ]
         } else {
             &[]
         };

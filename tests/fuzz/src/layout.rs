@@ -35,8 +35,8 @@ pub const NEXT: Field = Field { offset: 16, width: 2 };
 pub const PREV: Field = Field { offset: 18, width: 2 };
 pub const CHAIN: Field = Field { offset: 20, width: 2 };
 pub const QUEUE: Field = Field { offset: 22, width: 1 };
-pub const MARK: Field = Field { offset: 23, width: 1 };
-pub const FIELDS: [Field; 7] = [KEY, VALUE, NEXT, PREV, CHAIN, QUEUE, MARK];
+pub const FREQ: Field = Field { offset: 23, width: 1 };
+pub const FIELDS: [Field; 7] = [KEY, VALUE, NEXT, PREV, CHAIN, QUEUE, FREQ];
 
 pub fn header_cell(cell: usize) -> Range<usize> {
     8 * cell..8 * cell + 8
@@ -166,7 +166,7 @@ impl<'a> Read<'a> {
     }
 
     fn entry(&self, node: usize) -> Entry {
-        Entry { key: self.get(node, KEY), value: self.get(node, VALUE), frequency: self.get(node, MARK) as u8 }
+        Entry { key: self.get(node, KEY), value: self.get(node, VALUE), frequency: self.get(node, FREQ) as u8 }
     }
 
     fn entries(&self, nodes: &[usize]) -> VecDeque<Entry> {

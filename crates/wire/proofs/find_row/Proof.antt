@@ -1,4 +1,4 @@
--- `wire::find_row` meets its contract.
+-- `wire::find_row` meets its contract. The number of rows that the loop goes by is the length of the table, once that is unfolded.
 -- Assumes nothing.
 use borrow.Author.Needs.{needs}
 use Prim.Native.Nat.{_-_}

@@ -5,9 +5,6 @@ use Rattle.nodes.proofs.NodesLaws.{wrote}
 use Rattle.nodes.proofs.set_prev.Statement.{statement}
 use Rattle.nodes.proofs.set_prev.Tie as tie
 
-returns : tie.Need-returns
-returns c = search (needs, wrote)
-
 pub set-prev-spec : {M : Type 1} → statement M
 set-prev-spec =
     tie.close
@@ -17,4 +14,4 @@ set-prev-spec =
     (λ c. search needs)
     (λ c κs. search needs)
     (λ c. search needs)
-    returns)
+    (λ c. search (needs, wrote)))

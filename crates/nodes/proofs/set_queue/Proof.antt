@@ -5,9 +5,6 @@ use Rattle.nodes.proofs.NodesLaws.{wrote}
 use Rattle.nodes.proofs.set_queue.Statement.{statement}
 use Rattle.nodes.proofs.set_queue.Tie as tie
 
-returns : tie.Need-returns
-returns c = search (needs, wrote)
-
 pub set-queue-spec : {M : Type 1} → statement M
 set-queue-spec =
     tie.close
@@ -17,4 +14,4 @@ set-queue-spec =
     (λ c. search needs)
     (λ c κs. search needs)
     (λ c. search needs)
-    returns)
+    (λ c. search (needs, wrote)))

@@ -7,10 +7,12 @@ use Prim.Native.Nat.{ℕ, _+_, _*_, _/_, _%_, _^_, _≤_, _<_}
 use native.Mathlib.Omega.{arith}
 use native.Mathlib.Decide.{ℕ-discrete}
 use native.Mathlib.Nat.{mul-lt-mul-of-pos-right}
+use Rattle.cells.specs.Members.{Out}
+use Rattle.cells.proofs.MembersLaws.{nodup-less}
 use Rattle.key_index.specs.Links.{In, Links}
 use Rattle.key_index.specs.Index.{bucketOf, Clean, Bucketed, Index}
 use Rattle.key_index.proofs.LinksLaws.{in-more, in-less, same, stays}
-use Rattle.key_index.proofs.FewLaws.{links-distinct, distinct-out}
+use Rattle.key_index.proofs.FewLaws.{every-in, links-nodup}
 
 pub bucket-below : (k buckets : ℕ) → 0 < buckets → bucketOf k buckets < buckets
 unfolding bucketOf
@@ -116,7 +118,8 @@ module _ (n buckets : ℕ) (key link head : ℕ → ℕ) (live : ℕ → Type 0)
         go c (yes q) =
             let w = c .clean .whole in
             let all : w .nodes ≡ s ++ x ∷ t = same n link (head b) (w .nodes) (s ++ x ∷ t) (w .end) e (w .out) out (rw q at (w .links)) was in
-            let x-out : In x (s ++ t) → ⊥ = distinct-out x s t (links-distinct n link e out (head b) (s ++ x ∷ t) was) .1 in
+            let apart : Out x (s ++ t) = nodup-less s x t (links-nodup n link e out (head b) (s ++ x ∷ t) was) .1 in
+            let x-out : In x (s ++ t) → ⊥ = (λ i. every-in (λ y. y ≢ x) x (s ++ t) apart i refl) in
             record {
               clean = record {
                 whole = record { nodes = s ++ t; end = e; out = out; links = rw q is };

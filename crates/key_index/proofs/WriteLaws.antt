@@ -1,6 +1,6 @@
--- What callers cite: what a lookup's answer says, and the index after a write of the tag or of a field that it does not read.
+-- What callers cite: the index after a write of the tag or of a field that it does not read.
 -- Assumes nothing.
-use mathlib.Core.Path.{_≡_, refl, sym, _∙_}
+use mathlib.Core.Path.{_≡_, refl}
 use mathlib.Core.List.{List}
 use Prim.Native.Nat.{ℕ, _<_}
 use native.Mathlib.Omega.{arith}
@@ -9,40 +9,9 @@ use Rattle.nodes.specs.Nodes.{Field, Key, Chain, Queue, Bucket, Cols, cols, ove
 use Rattle.nodes.specs.declared.Shape.{Shape}
 use Rattle.nodes.proofs.NodesLaws.{length-cols}
 use Rattle.nodes.proofs.OverLaws.{Other, over-other}
-use Rattle.key_index.specs.declared.Found.{Found}
-use Rattle.key_index.specs.declared.Found.the-variants.{At, Nothing}
-use Rattle.key_index.specs.Stored.{LiveIn, Indexes, Hit, Miss, IsFound, withFirst, Joins, Unchains, Empties}
+use Rattle.key_index.specs.Stored.{LiveIn, Indexes, Miss, withFirst, Joins, Unchains}
 use Rattle.key_index.proofs.LiveLaws.{born, moved, cleared}
 use Rattle.key_index.proofs.StoreLaws.{joined}
-
--- ---- a lookup's answer
-
-pub found-at : {z : Shape} {c : Cols} {k x : ℕ} {r : Found} → IsFound z c k r → r ≡ At x → Hit z c k x
-found-at {x = x} f e = f .hit x e
-
-pub found-lives : {z : Shape} {c : Cols} {k x : ℕ} {r : Found} → IsFound z c k r → r ≡ At x → LiveIn z c x
-found-lives {x = x} f e = f .hit x e .lives
-
-pub found-nothing : {z : Shape} {c : Cols} {k : ℕ} {r : Found} → IsFound z c k r → r ≡ Nothing → Miss z c k
-found-nothing f e = f .miss e
-
--- one key, one node
-pub hit-once : {z : Shape} {c : Cols} {k x y : ℕ} → Indexes z c → Hit z c k x → Hit z c k y → x ≡ y
-hit-once {x = x} {y = y} ix f g = ix .index .unique x y (f .lives) (g .lives) (f .holds ∙ sym (g .holds))
-
--- ---- fields that the index does not write; where the field is named, each of the `Other`s is `refl`
-
-pub joins-keeps : {z : Shape} {c d : Cols} {x k : ℕ} → Joins z c d x k → (f : Field) → Other Key f → Other Chain f → Other Bucket f → d f ≡ c f
-unfolding withFirst over
-joins-keeps j f key chain bucket = rw (j .columns, key, chain, bucket)
-
-pub unchains-keeps : {z : Shape} {c d : Cols} {x : ℕ} → Unchains z c d x → (f : Field) → Other Chain f → Other Bucket f → d f ≡ c f
-unfolding withColumn
-unchains-keeps l f chain bucket = rw (l .columns, chain, bucket)
-
-pub empties-keeps : {z : Shape} {c d : Cols} → Empties z c d → (f : Field) → Other Bucket f → d f ≡ c f
-unfolding withColumn
-empties-keeps e f bucket = rw (e .columns, bucket)
 
 -- ---- fields that the index does not read
 

@@ -11,10 +11,11 @@ use lib.Dec.{eqb}
 use lib.ListN.{length, getD}
 use Rattle.cells.specs.Decides.{Decides, All}
 use Rattle.cells.proofs.DecidesLaws.{refuse, decides-map, decides-eq}
+use Rattle.cells.specs.Members.{Every}
 use Rattle.nodes.specs.Nodes.{Head, Next, Prev, Queue, cols, GetsField}
 use Rattle.nodes.specs.declared.Shape.{Shape}
 use Rattle.nodes.proofs.NodesLaws.{length-cols}
-use Rattle.lists.specs.Ring.{Every, Seg, Ring, Tagged}
+use Rattle.lists.specs.Ring.{Seg, Ring, Tagged}
 use Rattle.lists.specs.Pool.{view}
 use Rattle.lists.specs.Lists.{many, Lists}
 use Rattle.lists.specs.Check.{Listed, Counted, StepOk, Home, Leads, ListOk}

@@ -8,17 +8,19 @@ use native.Mathlib.Omega.{arith}
 use borrow.Author.Count.{below-more}
 use lib.ListN.{length, set, length-set}
 use lib.Seq.{getD-set-same, getD-set-other}
+use Rattle.cells.proofs.MembersLaws.{every-map}
+use Rattle.cells.specs.Members.{Every, Out}
 use Rattle.nodes.specs.Nodes.{Head, Next, Prev, Queue, Cols, cols, over, Room, SetsField}
 use Rattle.nodes.specs.declared.Shape.{Shape}
 use Rattle.nodes.proofs.NodesLaws.{length-cols, room-kept}
-use Rattle.lists.specs.Ring.{Every, Out, Ring}
+use Rattle.lists.specs.Ring.{Ring}
 use Rattle.lists.specs.Pool.{Absent, upd}
 use Rattle.lists.specs.Lists.{many, Lists, inAll, Untouched, CanAttach, Attached}
 use Rattle.lists.specs.Fresh.{stack, allFree, Fresh, emptied, EmptyList}
-use Rattle.lists.proofs.EveryLaws.{every-map, high}
+use Rattle.lists.proofs.EveryLaws.{high}
 use Rattle.lists.proofs.RingLaws.{ring-nx, ring-pv}
 use Rattle.lists.proofs.ListsLaws.{four, lists-push, lists-ext, can-push}
-use Rattle.lists.proofs.FrameLaws.{same-all, same-then, attached-same}
+use Rattle.lists.proofs.FrameLaws.{same-all, same-then, same-but, attached-same}
 
 -- ---- a list is emptied
 
@@ -34,7 +36,7 @@ pub record Bare (z : Shape) (c : Cols) (i : ℕ) : Type 0 where
 module _ (z : Shape) (c : Cols) (t : ℕ) where
   emptied-same : t < 4 → Untouched c (emptied z c t)
   unfolding emptied over
-  emptied-same b = record { keys = refl; values = refl; chains = refl; freqs = refl; buckets = refl; rest = refl; heads-below = λ i h. getD-set-other (c Head) (4 + t) i 0 0 (omega arith); heads-above = λ i h. getD-set-other (c Head) (4 + t) i 0 0 (omega arith) }
+  emptied-same b = same-but b refl refl refl refl refl refl (λ i n. getD-set-other (c Head) (4 + t) i 0 0 n)
 
   emptied-own : z .room + t < length (c Next) → z .room + t < length (c Prev) → 4 + t < length (c Head) → Bare z (emptied z c t) t
   unfolding emptied over

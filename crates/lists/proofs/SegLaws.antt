@@ -9,8 +9,9 @@ use native.Mathlib.Nat.{le-refl}
 use borrow.Author.Tests.{eq-eqb, ne-eqb}
 use lib.ListN.{length, getD, set, length-set}
 use lib.Seq.{getD-set-same, getD-set-other}
-use Rattle.lists.specs.Ring.{Every, Out, Last, Link, Seg, trail}
-use Rattle.lists.proofs.EveryLaws.{every-right}
+use Rattle.cells.proofs.MembersLaws.{every-right}
+use Rattle.cells.specs.Members.{Every, Out}
+use Rattle.lists.specs.Ring.{Last, Link, Seg, trail}
 
 module _ (nx pv : List ℕ) where
   -- a store at an index that the segment does not read

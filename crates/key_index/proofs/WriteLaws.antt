@@ -20,7 +20,8 @@ pub index-same : {z : Shape} {c d : Cols} → d Key ≡ c Key → d Chain ≡ c 
 index-same key chain bucket queue ix = record { index = rw (key, chain, bucket, queue) (ix .index) }
 
 -- a write to any other field; where the field is named, each of the four is `refl`
-pub index-aside : {z : Shape} {c : Cols} (f : Field) (i v : ℕ) → Other f Key → Other f Chain → Other f Bucket → Other f Queue → Indexes z c → Indexes z (over c f i v)
+pub index-aside : {z : Shape} {c : Cols} (f : Field) (i v : ℕ) → Other f Key → Other f Chain → Other f Bucket → Other f Queue → Indexes z c
+    → Indexes z (over c f i v)
 index-aside {c = c} f i v key chain bucket queue ix =
     index-same (over-other c f i v Key key) (over-other c f i v Chain chain) (over-other c f i v Bucket bucket) (over-other c f i v Queue queue) ix
 
@@ -37,7 +38,8 @@ unfolding over withColumn
 index-cleared {z} {c} {d} {x} lives l = record { index = rw (l .columns) (cleared (c Queue) x lives (l .index)) }
 
 -- a node with the tag 0 comes in with a key that no live node has, and its tag becomes v
-pub index-born : {z : Shape} {s : List ℕ} {d : Cols} {x k v : ℕ} → Room z s → Indexes z (cols z s) → x < z .room → getD (cols z s Queue) x 0 ≡ 0 → Miss z (cols z s) k
+pub index-born : {z : Shape} {s : List ℕ} {d : Cols} {x k v : ℕ} → Room z s → Indexes z (cols z s) → x < z .room → getD (cols z s Queue) x 0 ≡ 0
+    → Miss z (cols z s) k
     → Joins z (cols z s) d x k → 0 < v → Indexes z (over d Queue x v)
 unfolding over withFirst
 index-born {z} {s} {d} {x} {k} {v} room ix below free new j some = record {

@@ -15,7 +15,8 @@ use Rattle.lists.specs.Lists.{many, Lists, Untouched, unlink, link, deta
 -- ---- what is no part of the lists
 
 pub same-all : (c : Cols) → Untouched c c
-same-all c = record { keys = refl; values = refl; chains = refl; freqs = refl; buckets = refl; rest = refl; heads-below = λ i b. refl; heads-above = λ i b. refl }
+same-all c =
+    record { keys = refl; values = refl; chains = refl; freqs = refl; buckets = refl; rest = refl; heads-below = λ i b. refl; heads-above = λ i b. refl }
 
 pub same-then : {c d e : Cols} → Untouched c d → Untouched d e → Untouched c e
 same-then a b =
@@ -86,13 +87,16 @@ module _ {z : Shape} {s s′ : List ℕ} {t x : ℕ} (tK : t < 4) where
 -- ---- what leaves the lists alone
 
 module _ {z : Shape} {c : Cols} {f : ℕ → List ℕ} (r : Lists z c f) where
-  pub lists-frame : (d : Cols) → d Next ≡ c Next → d Prev ≡ c Prev → d Queue ≡ c Queue → ((t : ℕ) → t < 4 → many d t ≡ many c t) → length (d Head) ≡ length (c Head) → Lists z d f
+  pub lists-frame : (d : Cols) → d Next ≡ c Next → d Prev ≡ c Prev → d Queue ≡ c Queue → ((t : ℕ) → t < 4 → many d t ≡ many c t)
+      → length (d Head) ≡ length (c Head) → Lists z d f
   lists-frame d a b e h l = record { pool = rw (a, b, e) (r .pool); counts = λ t tK. h t tK ∙ r .counts t tK; in-head = rw l (r .in-head) }
 
   -- a field that is no part of them; each premise is `refl` where the field is named
   module _ (g : Field) (n : Other g Next) (p : Other g Prev) (q : Other g Queue) (h : Other g Head) where
     pub lists-with : (l : List ℕ) → Lists z (withColumn c g l) f
-    lists-with l = lists-frame (withColumn c g l) (with-other c g l Next n) (with-other c g l Prev p) (with-other c g l Queue q) (λ t b. ap (λ (k : List ℕ). getD k (4 + t) 0) (with-other c g l Head h)) (ap length (with-other c g l Head h))
+    lists-with l =
+        lists-frame (withColumn c g l) (with-other c g l Next n) (with-other c g l Prev p) (with-other c g l Queue q)
+        (λ t b. ap (λ (k : List ℕ). getD k (4 + t) 0) (with-other c g l Head h)) (ap length (with-other c g l Head h))
 
     pub lists-over : (i v : ℕ) → Lists z (over c g i v) f
     lists-over i v = rw (over-with c g i v) (lists-with (set (c g) i v))

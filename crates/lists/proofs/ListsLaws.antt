@@ -14,7 +14,8 @@ use Rattle.lists.specs.Ring.{First, Last, Ring, Tagged}
 use Rattle.lists.specs.Pool.{Absent, upd, view}
 use Rattle.lists.specs.Lists.{many, Lists, inAll, unlink, link, detached, attached, CanDetach, Detached, CanAttach, Attached}
 use Rattle.lists.proofs.RingLaws.{attachNx, attachPv, detachNx, detachPv, Member, first-back, ring-first, ring-last}
-use Rattle.lists.proofs.PoolLaws.{upd-all, pool-member, pool-tag, pool-elsewhere, pool-taken, pool-gone, pool-pushed, pool-view, cat, pool-full, ring-shorter}
+use Rattle.lists.proofs.PoolLaws.{upd-all, pool-member, pool-tag, pool-elsewhere, pool-taken, pool-gone, pool-pushed, pool-view, cat}
+use Rattle.lists.proofs.PoolLaws.{pool-full, ring-shorter}
 
 -- what holds of 0 to 3 holds below 4
 pub four : (P : ℕ → Type 0) → P 0 → P 1 → P 2 → P 3 → (t : ℕ) → t < 4 → P t
@@ -25,10 +26,12 @@ four P a b c d (suc (suc (suc zero))) h = d
 four P a b c d (suc (suc (suc (suc t)))) h = absurd (omega arith)
 
 -- the length of list t was written; the others' stand where they stood
-count-set : (h : List ℕ) (f : ℕ → List ℕ) → ((t : ℕ) → t < 4 → getD h (4 + t) 0 ≡ length (f t)) → 8 ≤ length h → (i : ℕ) → i < 4 → (l : List ℕ) (n : ℕ) → n ≡ length l
+count-set : (h : List ℕ) (f : ℕ → List ℕ) → ((t : ℕ) → t < 4 → getD h (4 + t) 0 ≡ length (f t)) → 8 ≤ length h → (i : ℕ) → i < 4
+    → (l : List ℕ) (n : ℕ) → n ≡ length l
     → (t : ℕ) → t < 4 → getD (set h (4 + i) n) (4 + t) 0 ≡ length (upd f i l t)
 count-set h f k b i iK l n e =
-    upd-all (λ t m. t < 4 → getD (set h (4 + i) n) (4 + t) 0 ≡ length m) f i l (λ _. getD-set-same h (4 + i) n 0 (omega arith) ∙ e) (λ t ne tK. getD-set-other h (4 + i) (4 + t) n 0 (omega arith) ∙ k t tK)
+    upd-all (λ t m. t < 4 → getD (set h (4 + i) n) (4 + t) 0 ≡ length m) f i l (λ _. getD-set-same h (4 + i) n 0 (omega arith) ∙ e)
+    (λ t ne tK. getD-set-other h (4 + i) (4 + t) n 0 (omega arith) ∙ k t tK)
 
 module _ {z : Shape} {c : Cols} {f : ℕ → List ℕ} (r : Lists z c f) where
   -- ---- take
@@ -101,7 +104,11 @@ module _ {z : Shape} {c : Cols} {f : ℕ → List ℕ} (r : Lists z c f) where
   pub lists-ext : {g : ℕ → List ℕ} → ((t : ℕ) → t < 4 → f t ≡ g t) → Lists z c g
   lists-ext {g} e =
       record {
-        pool = record { rings = λ t b. subst (λ (l : List ℕ). Ring (z .room) (c Next) (c Prev) (z .room + t) l) (e t b) (r .pool .rings t b); tags = λ t b. subst (λ (l : List ℕ). Tagged (c Queue) t l) (e t b) (r .pool .tags t b); in-q = r .pool .in-q };
+        pool = record {
+          rings = λ t b. subst (λ (l : List ℕ). Ring (z .room) (c Next) (c Prev) (z .room + t) l) (e t b) (r .pool .rings t b);
+          tags = λ t b. subst (λ (l : List ℕ). Tagged (c Queue) t l) (e t b) (r .pool .tags t b);
+          in-q = r .pool .in-q;
+        };
         counts = λ t b. r .counts t b ∙ ap length (e t b);
         in-head = r .in-head;
       }
@@ -109,7 +116,14 @@ module _ {z : Shape} {c : Cols} {f : ℕ → List ℕ} (r : Lists z c f) where
   -- ---- how many there are in all
 
   all-four : length (cat f 4) ≡ inAll f
-  all-four = omega (arith, length-append (f 3) (f 2 ++ (f 1 ++ (f 0 ++ []))), length-append (f 2) (f 1 ++ (f 0 ++ [])), length-append (f 1) (f 0 ++ []), length-append (f 0) [])
+  all-four =
+      omega (
+        arith,
+        length-append (f 3) (f 2 ++ (f 1 ++ (f 0 ++ []))),
+        length-append (f 2) (f 1 ++ (f 0 ++ [])),
+        length-append (f 1) (f 0 ++ []),
+        length-append (f 0) [],
+      )
 
   -- where every node is in a list, its tag says in which
   module _ (w : inAll f ≡ z .room) (x : ℕ) (b : x < z .room) where
@@ -136,8 +150,14 @@ module _ {z : Shape} {s : List ℕ} {f : ℕ → List ℕ} (r : Lists z (cols z 
 
   pub can-push : {x : ℕ} → Absent 4 f x → x < z .room → CanAttach z s t x
   can-push {x} o b =
-      let k : (getD (cols z s Prev) (getD (cols z s Next) (z .room + t) 0) 0 ≡ z .room + t) × (getD (cols z s Next) (z .room + t) 0 ≤ z .room + t) = first-back (z .room) (cols z s Next) (cols z s Prev) (z .room + t) (f t) (lists-ring r tK) in
-      record { list = tK; node = b; next-in = omega arith; space = omega (arith, r .counts t tK, ring-shorter (z .room) (cols z s Next) (cols z s Prev) (z .room + t) (f t) (lists-ring r tK) x b (o t tK)) }
+      let k : (getD (cols z s Prev) (getD (cols z s Next) (z .room + t) 0) 0 ≡ z .room + t) × (getD (cols z s Next) (z .room + t) 0 ≤ z .room + t) =
+      first-back (z .room) (cols z s Next) (cols z s Prev) (z .room + t) (f t) (lists-ring r tK) in
+      record {
+        list = tK;
+        node = b;
+        next-in = omega arith;
+        space = omega (arith, r .counts t tK, ring-shorter (z .room) (cols z s Next) (cols z s Prev) (z .room + t) (f t) (lists-ring r tK) x b (o t tK));
+      }
 
   -- what was read of a list is its length
   pub read-length : {n : ℕ} → GetsField z s Head (4 + t) n → n ≡ length (f t)

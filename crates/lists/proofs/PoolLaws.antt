@@ -15,7 +15,8 @@ use Rattle.lists.specs.Ring.{Seg, Ring, Tagged, trail}
 use Rattle.lists.specs.Pool.{Pool, Absent, upd, view}
 use Rattle.lists.proofs.EveryLaws.{high, tag-out, tag-frame}
 use Rattle.lists.proofs.SegLaws.{no-return}
-use Rattle.lists.proofs.RingLaws.{attachNx, attachPv, detachNx, detachPv, Member, member, detach-own, detach-other, attach-own, attach-other, first-back, ring-out, ring-walk}
+use Rattle.lists.proofs.RingLaws.{attachNx, attachPv, detachNx, detachPv, Member, member, detach-own, detach-other, attach-own, attach-other}
+use Rattle.lists.proofs.RingLaws.{first-back, ring-out, ring-walk}
 
 -- what holds of the new list at i, and of the old elsewhere, holds of f with the new list
 pub upd-all : (P : ℕ → List ℕ → Type 0) (f : ℕ → List ℕ) (i : ℕ) (l : List ℕ) → P i l → ((t : ℕ) → t ≢ i → P t (f t)) → (t : ℕ) → P t (upd f i l t)
@@ -51,13 +52,18 @@ module _ (N K : ℕ) (nx pv q : List ℕ) (f : ℕ → List ℕ) (r : Pool N K n
     pool-taken =
         let m : Member N nx pv (N + i) a x b = pool-member in
         record {
-          rings = upd-all (λ t l. t < K → Ring N (detachNx nx pv x) (detachPv nx pv x) (N + t) l) f i (a ++ b) (λ _. detach-own N nx pv (N + i) a x b ri) (λ t n tK. detach-other N nx pv (N + t) (f t) (r .rings t tK) x (omega arith, pool-elsewhere t n tK) (m .prev-forth) (m .next-back));
+          rings =
+              upd-all (λ t l. t < K → Ring N (detachNx nx pv x) (detachPv nx pv x) (N + t) l) f i (a ++ b)
+              (λ _. detach-own N nx pv (N + i) a x b ri)
+              (λ t n tK. detach-other N nx pv (N + t) (f t) (r .rings t tK) x (omega arith, pool-elsewhere t n tK) (m .prev-forth) (m .next-back));
           tags = upd-all (λ t l. t < K → Tagged q t l) f i (a ++ b) (λ _. every-less (λ y. getD q y 0 ≡ i) a x b ti) (λ t n. r .tags t);
           in-q = r .in-q;
         }
 
     pub pool-gone : Absent K (upd f i (a ++ b)) x
-    pool-gone = let m : Member N nx pv (N + i) a x b = pool-member in upd-all (λ t l. t < K → Out x l) f i (a ++ b) (λ _. every-append (λ y. y ≢ x) a b (m .not-before) (m .not-after)) pool-elsewhere
+    pool-gone =
+        let m : Member N nx pv (N + i) a x b = pool-member in
+        upd-all (λ t l. t < K → Out x l) f i (a ++ b) (λ _. every-append (λ y. y ≢ x) a b (m .not-before) (m .not-after)) pool-elsewhere
 
   module _ (x : ℕ) (o : Absent K f x) where
     -- a node in no ring gets another tag
@@ -68,7 +74,12 @@ module _ (N K : ℕ) (nx pv q : List ℕ) (f : ℕ → List ℕ) (r : Pool N K n
     pub pool-given : (j : ℕ) → j < K → x < N → getD q x 0 ≡ j → Pool N K (attachNx nx (N + j) x) (attachPv nx pv (N + j) x) q (upd f j (x ∷ f j))
     pool-given j jK xN e =
         record {
-          rings = upd-all (λ t l. t < K → Ring N (attachNx nx (N + j) x) (attachPv nx pv (N + j) x) (N + t) l) f j (x ∷ f j) (λ _. attach-own N nx pv (N + j) (f j) (r .rings j jK) x xN (o j jK)) (λ t n tK. attach-other N nx pv (N + t) (f t) (r .rings t tK) (N + j) x (omega arith, high N (N + j) (f t) (omega arith) (r .rings t tK .nodes)) (omega arith, o t tK) (first-back N nx pv (N + j) (f j) (r .rings j jK) .0));
+          rings =
+              upd-all (λ t l. t < K → Ring N (attachNx nx (N + j) x) (attachPv nx pv (N + j) x) (N + t) l) f j (x ∷ f j)
+              (λ _. attach-own N nx pv (N + j) (f j) (r .rings j jK) x xN (o j jK))
+              (λ t n tK. attach-other N nx pv (N + t) (f t) (r .rings t tK) (N + j) x
+              (omega arith, high N (N + j) (f t) (omega arith) (r .rings t tK .nodes)) (omega arith, o t tK)
+              (first-back N nx pv (N + j) (f j) (r .rings j jK) .0));
           tags = upd-all (λ t l. t < K → Tagged q t l) f j (x ∷ f j) (λ _. (e, r .tags j jK)) (λ t n. r .tags t);
           in-q = r .in-q;
         }
@@ -125,14 +136,20 @@ module _ (N K : ℕ) (nx pv q : List ℕ) (f : ℕ → List ℕ) (r : Pool N K n
   cat-all : (k : ℕ) → k ≤ K → Every (λ y. getD q y 0 < k) (cat f k) × Every (λ y. y < N) (cat f k)
   cat-all zero le = (tt, tt)
   cat-all (suc k) le =
-      let p : Every (λ y. getD q y 0 < k) (cat f k) × Every (λ y. y < N) (cat f k) = cat-all k (omega arith) in
-      (every-append (λ y. getD q y 0 < suc k) (f k) (cat f k) (every-map (f k) (λ y (e : getD q y 0 ≡ k). omega arith) (r .tags k (omega arith))) (every-map (cat f k) (λ y (e : getD q y 0 < k). omega arith) (p .0)), every-append (λ y. y < N) (f k) (cat f k) (r .rings k (omega arith) .nodes) (p .1))
+      let p : Every (λ y. getD q y 0 < k) (cat f k) × Every (λ y. y < N) (cat f k) = cat-all k (omega arith) in (
+        every-append (λ y. getD q y 0 < suc k) (f k) (cat f k)
+            (every-map (f k) (λ y (e : getD q y 0 ≡ k). omega arith) (r .tags k (omega arith)))
+            (every-map (cat f k) (λ y (e : getD q y 0 < k). omega arith) (p .0)),
+        every-append (λ y. y < N) (f k) (cat f k) (r .rings k (omega arith) .nodes) (p .1),
+      )
 
   cat-nodup : (k : ℕ) → k ≤ K → Nodup (cat f k)
   cat-nodup zero le = tt
   cat-nodup (suc k) le =
       nodup-append (f k) (cat f k) (ring-nodup N nx pv (N + k) (f k) (r .rings k (omega arith))) (cat-nodup k (omega arith))
-      (every-map (f k) (λ y (e : getD q y 0 ≡ k). every-map (cat f k) (λ z (b : getD q z 0 < k) d. omega (arith, ap (λ (i : ℕ). getD q i 0) d)) (cat-all k (omega arith) .0)) (r .tags k (omega arith)))
+      (every-map (f k)
+      (λ y (e : getD q y 0 ≡ k). every-map (cat f k) (λ z (b : getD q z 0 < k) d. omega (arith, ap (λ (i : ℕ). getD q i 0) d)) (cat-all k (omega arith) .0))
+      (r .tags k (omega arith)))
 
   -- where they have N, each node is in one, and its tag says which
   pub pool-full : N ≤ length (cat f K) → (x : ℕ) → x < N → (t : ℕ) × (t < K) × Among x (f t)

@@ -32,7 +32,8 @@ module _ (N : ℕ) (nx pv : List ℕ) (s : ℕ) (l : List ℕ) (r : Ring N nx pv
   ring-nx i w o = record { seg = seg-nx nx pv i w s l s o (r .seg); nodes = r .nodes; low = r .low; in-nx = rw length-set (r .in-nx); in-pv = r .in-pv }
 
   pub ring-pv : (i w : ℕ) → Out i (s ∷ l) → Ring N nx (set pv i w) s l
-  ring-pv i w o = record { seg = seg-pv nx pv i w s l s (o .1) (o .0) (r .seg); nodes = r .nodes; low = r .low; in-nx = r .in-nx; in-pv = rw length-set (r .in-pv) }
+  ring-pv i w o =
+      record { seg = seg-pv nx pv i w s l s (o .1) (o .0) (r .seg); nodes = r .nodes; low = r .low; in-nx = r .in-nx; in-pv = rw length-set (r .in-pv) }
 
   -- the sentinel is no member of its list
   pub ring-out : Out s l
@@ -45,9 +46,16 @@ module _ (N : ℕ) (nx pv : List ℕ) (s : ℕ) (l : List ℕ) (r : Ring N nx pv
   pub detach-other : (x : ℕ) → Out x (s ∷ l) → getD nx (getD pv x 0) 0 ≡ x → getD pv (getD nx x 0) 0 ≡ x → Ring N (detachNx nx pv x) (detachPv nx pv x) s l
   unfolding detachNx detachPv
   detach-other x o np pn =
-      record { seg = keep nx pv x (getD pv x 0) (getD nx x 0) np pn s l s o (o .0) (r .seg); nodes = r .nodes; low = r .low; in-nx = rw length-set (r .in-nx); in-pv = rw length-set (r .in-pv) }
+      record {
+        seg = keep nx pv x (getD pv x 0) (getD nx x 0) np pn s l s o (o .0) (r .seg);
+        nodes = r .nodes;
+        low = r .low;
+        in-nx = rw length-set (r .in-nx);
+        in-pv = rw length-set (r .in-pv);
+      }
 
-pub attach-other : (N : ℕ) (nx pv : List ℕ) (s : ℕ) (l : List ℕ) → Ring N nx pv s l → (t x : ℕ) → Out t (s ∷ l) → Out x (s ∷ l) → getD pv (getD nx t 0) 0 ≡ t → Ring N (attachNx nx t x) (attachPv nx pv t x) s l
+pub attach-other : (N : ℕ) (nx pv : List ℕ) (s : ℕ) (l : List ℕ) → Ring N nx pv s l → (t x : ℕ) → Out t (s ∷ l) → Out x (s ∷ l)
+    → getD pv (getD nx t 0) 0 ≡ t → Ring N (attachNx nx t x) (attachPv nx pv t x) s l
 unfolding attachNx attachPv
 attach-other N nx pv s l r t x ot ox pn =
     let n : ℕ = getD nx t 0 in
@@ -72,7 +80,9 @@ module _ (N : ℕ) (nx pv : List ℕ) (s : ℕ) (l : List ℕ) (r : Ring N nx pv
       let bp : s < length pv = r .in-pv in
       let ne : s ≢ x = omega arith in
       record {
-        seg = seg-attach nx pv x s bn (omega arith) (omega arith) l s (every-map l (λ y (k : y < N). omega arith) (r .nodes)) bp (ne, o) ne (ring-out N nx pv s l r) (ring-out N nx pv s l r) (r .seg);
+        seg =
+            seg-attach nx pv x s bn (omega arith) (omega arith) l s (every-map l (λ y (k : y < N). omega arith) (r .nodes)) bp (ne, o) ne
+            (ring-out N nx pv s l r) (ring-out N nx pv s l r) (r .seg);
         nodes = (xN, r .nodes);
         low = b;
         in-nx = simp length-set bn;
@@ -117,7 +127,9 @@ module _ (N : ℕ) (nx pv : List ℕ) (s : ℕ) (a : List ℕ) (x : ℕ) (b : Li
       let bp : s < length pv = r .in-pv in
       let ne : s ≢ x = omega arith in
       record {
-        seg = seg-detach nx pv x (getD pv x 0) (getD nx x 0) (m .prev-forth) (m .next-back) refl refl (omega arith) (omega arith) s a b s (ne, m .not-before) (m .not-after) ne (r .seg);
+        seg =
+            seg-detach nx pv x (getD pv x 0) (getD nx x 0) (m .prev-forth) (m .next-back) refl refl (omega arith) (omega arith) s a b s
+            (ne, m .not-before) (m .not-after) ne (r .seg);
         nodes = every-less (λ y. y < N) a x b (r .nodes);
         low = bN;
         in-nx = simp length-set bn;

@@ -8,12 +8,5 @@ use Rattle.nodes.proofs.bucket_of.Tie as tie
 pub bucket-of-spec : {M : Type 1} → statement M
 bucket-of-spec =
     tie.close
-    (tie.spec
-    (λ c. search needs)
-    (λ c. search needs)
-    (λ c. search needs)
-    (λ c. search needs)
-    (λ c. search needs)
-    (λ c κs. search needs)
-    (λ c. search needs)
-    (λ c. (search (needs, was-read), search needs)))
+    (tie.spec (λ c. search needs) (λ c. search needs) (λ c. search needs) (λ c. search needs) (λ c. search needs) (λ c κs. search needs)
+    (λ c. search needs) (λ c. (search (needs, was-read), search needs)))

@@ -6,4 +6,6 @@ use Rattle.nodes.proofs.chain_of.Statement.{statement}
 use Rattle.nodes.proofs.chain_of.Tie as tie
 
 pub chain-of-spec : {M : Type 1} → statement M
-chain-of-spec = tie.close (tie.spec (λ c. search needs) (λ c. search needs) (λ c κs. search needs) (λ c. search needs) (λ c. (search (needs, was-read), search needs)))
+chain-of-spec =
+    tie.close
+    (tie.spec (λ c. search needs) (λ c. search needs) (λ c κs. search needs) (λ c. search needs) (λ c. (search (needs, was-read), search needs)))

@@ -93,7 +93,8 @@ for capacity in [0, 1, 1024, 1025, 1 << 63]:
         for ghosts in [GHOSTS, SIGN, INFINITY, INFINITY + 1, INFINITY - 1]:
             add(capacity, small, ghosts)
 # zeros, the smallest and largest of each kind, 1 and its neighbours, infinities, NaNs, each with either sign
-odd = [0, 1, 2, 3, (1 << 52) - 1, 1 << 52, (1 << 52) + 1, ONE - (1 << 52), ONE - 1, ONE, ONE + 1, ONE + (1 << 52), INFINITY - 1, INFINITY, INFINITY + 1, INFINITY + (1 << 51), SIGN - 1]
+odd = [0, 1, 2, 3, (1 << 52) - 1, 1 << 52, (1 << 52) + 1, ONE - (1 << 52), ONE - 1, ONE, ONE + 1, ONE + (1 << 52)]
+odd += [INFINITY - 1, INFINITY, INFINITY + 1, INFINITY + (1 << 51), SIGN - 1]
 for capacity in [1, 2, 3, 1023, 1024]:
     for bits in odd + [SIGN + bits for bits in odd]:
         add(capacity, bits, GHOSTS)

@@ -61,7 +61,14 @@ module _ {n buckets : ℕ} {key link head : ℕ → ℕ} {live : ℕ → Type 0}
 
       pub walked-long : left ≡ 0 → ⊥
       walked-long z =
-          omega (arith, w .count, z, links-few n link (all .end) (all .out) (head b) (all .nodes) (all .links), ap length (here .1), length-append (w .front) (h ∷ here .0))
+          omega (
+            arith,
+            w .count,
+            z,
+            links-few n link (all .end) (all .out) (head b) (all .nodes) (all .links),
+            ap length (here .1),
+            length-append (w .front) (h ∷ here .0),
+          )
 
 -- whether a node is what a lookup finds
 module _ {n : ℕ} {key link : ℕ → ℕ} {h k : ℕ} (w : Whole n link h) where
@@ -86,14 +93,16 @@ module _ {n buckets : ℕ} {key link head : ℕ → ℕ} {live : ℕ → Type 0}
           → FirstIs n key link (key x) (head (bucketOf (key x) buckets)) r
       all w r q = record {
         first-is = λ v.
-            q ∙ ap (firstWith key (key x)) (same n link (head (bucketOf (key x) buckets)) (w .nodes) (v .nodes) (w .end) (v .end) (w .out) (v .out) (w .links) (v .links));
+            q ∙ ap (firstWith key (key x))
+            (same n link (head (bucketOf (key x) buckets)) (w .nodes) (v .nodes) (w .end) (v .end) (w .out) (v .out) (w .links) (v .links));
       }
 
       go : (w : Whole n link (head (bucketOf (key x) buckets))) (r : Found) → r ≡ firstWith key (key x) (w .nodes) → At x ≡ firstWith key (key x) (w .nodes)
       go w (At y) q = let f = index-at ix some (key x) y (all w (At y) q) in ap At (ix .unique x y l (f .0) (sym (f .1))) ∙ q
       go w Nothing q = absurd (index-nothing ix some (key x) (all w Nothing q) x l refl)
 
-  pub checked : ((b : ℕ) → b < buckets → Clean n buckets key link head live b) → ((x : ℕ) → live x → Mine n buckets key link head x) → Index n buckets key link head live
+  pub checked : ((b : ℕ) → b < buckets → Clean n buckets key link head live b) → ((x : ℕ) → live x → Mine n buckets key link head x)
+      → Index n buckets key link head live
   checked hs mine = record { chains = λ b h. record { clean = hs b h; full = λ y. full b y (hs b h) }; unique = unique }
     where
       full : (b y : ℕ) (c : Clean n buckets key link head live b) → live y → bucketOf (key y) buckets ≡ b → In y (c .whole .nodes)

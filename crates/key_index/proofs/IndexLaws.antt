@@ -7,10 +7,12 @@ use Prim.Native.Nat.{ℕ, _+_, _*_, _/_, _%_, _^_, _≤_, _<_}
 use native.Mathlib.Omega.{arith}
 use native.Mathlib.Decide.{ℕ-discrete}
 use native.Mathlib.Nat.{mul-lt-mul-of-pos-right}
+use Rattle.cells.specs.Members.{Out}
+use Rattle.cells.proofs.MembersLaws.{nodup-less}
 use Rattle.key_index.specs.Links.{In, Links}
 use Rattle.key_index.specs.Index.{bucketOf, Clean, Bucketed, Index}
 use Rattle.key_index.proofs.LinksLaws.{in-more, in-less, same, stays}
-use Rattle.key_index.proofs.FewLaws.{links-distinct, distinct-out}
+use Rattle.key_index.proofs.FewLaws.{every-in, links-nodup}
 
 pub bucket-below : (k buckets : ℕ) → 0 < buckets → bucketOf k buckets < buckets
 unfolding bucketOf
@@ -23,16 +25,34 @@ pub record Put (f : ℕ → ℕ) (x v : ℕ) (g : ℕ → ℕ) : Type 0 where
   pub same : g x ≡ v
   pub other : (y : ℕ) → y ≢ x → g y ≡ f y
 
+-- a chain stays where its head, its nodes' links and keys, and which nodes of its bucket are live stay
+chain-stays : {n buckets : ℕ} {key link head key′ link′ head′ : ℕ → ℕ} {live live′ : ℕ → Type 0} {b : ℕ}
+    → Bucketed n buckets key link head live b → head′ b ≡ head b
+    → ((y : ℕ) → live y → bucketOf (key y) buckets ≡ b → (link′ y ≡ link y) × live′ y × (key′ y ≡ key y))
+    → ((y : ℕ) → live′ y → bucketOf (key′ y) buckets ≡ b → live y × (key′ y ≡ key y)) → Bucketed n buckets key′ link′ head′ live′ b
+chain-stays {n} {link = link} {head = head} {link′ = link′} {b = b} c h on back =
+    let w = c .clean .whole in
+    let sound = c .clean .sound in
+    record {
+      clean = record {
+        whole = record {
+          nodes = w .nodes;
+          end = w .end;
+          out = w .out;
+          links = rw h (stays n link link′ (head b) (w .nodes) (w .end) (λ y i. on y (sound y i .0) (sound y i .1) .0) (w .links));
+        };
+        sound = λ y i. let o = on y (sound y i .0) (sound y i .1) in (o .1, rw (o .2) (sound y i .1));
+      };
+      full = λ y l q. let o = back y l q in c .full y (o .0) (rw (o .1) at q);
+    }
+
 -- only which nodes are live counts
 pub reframe : {n buckets : ℕ} {key link head : ℕ → ℕ} {live live′ : ℕ → Type 0}
     → ((y : ℕ) → live y → live′ y) → ((y : ℕ) → live′ y → live y)
     → Index n buckets key link head live → Index n buckets key link head live′
 reframe to from ix =
     record {
-      chains = λ b h. let c = ix .chains b h in record {
-        clean = record { whole = c .clean .whole; sound = λ y i. (to y (c .clean .sound y i .0), c .clean .sound y i .1) };
-        full = λ y l e. c .full y (from y l) e;
-      };
+      chains = λ b h. chain-stays (ix .chains b h) refl (λ y l q. (refl, to y l, refl)) (λ y l q. (from y l, refl));
       unique = λ x y l m e. ix .unique x y (from x l) (from y m) e;
     }
 
@@ -85,15 +105,8 @@ module _ (n buckets : ℕ) (key link head : ℕ → ℕ) (live : ℕ → Type 0)
               full = λ y l q. ⊎-elim (λ r. inl r) (λ m. inr (c .full y m (rw (old y m) at q))) l;
             }
         go c (no ne) =
-            let w = c .clean .whole in
-            let sound = c .clean .sound in
-            record {
-              clean = record {
-                whole = record { nodes = w .nodes; end = w .end; out = w .out; links = rw (ph .other b ne) (kept (c .clean)) };
-                sound = λ y i. (inr (sound y i .0), rw (old y (sound y i .0)) (sound y i .1));
-              };
-              full = λ y l q. ⊎-elim (λ r. absurd (ne (sym q ∙ ap (λ z. bucketOf z buckets) (ap key′ r ∙ pk .same)))) (λ m. c .full y m (rw (old y m) at q)) l;
-            }
+            chain-stays c (ph .other b ne) (λ y l q. (pl .other y (not-x y l), inr l, old y l))
+            (λ y l q. ⊎-elim (λ r. absurd (ne (sym q ∙ ap (λ z. bucketOf z buckets) (ap key′ r ∙ pk .same)))) (λ m. (m, old y m)) l)
 
     pub added : Index n buckets key′ link′ head′ (λ y. (y ≡ x) ⊎ live y)
     added = record { chains = add-chain; unique = only }
@@ -116,7 +129,8 @@ module _ (n buckets : ℕ) (key link head : ℕ → ℕ) (live : ℕ → Type 0)
         go c (yes q) =
             let w = c .clean .whole in
             let all : w .nodes ≡ s ++ x ∷ t = same n link (head b) (w .nodes) (s ++ x ∷ t) (w .end) e (w .out) out (rw q at (w .links)) was in
-            let x-out : In x (s ++ t) → ⊥ = distinct-out x s t (links-distinct n link e out (head b) (s ++ x ∷ t) was) .1 in
+            let apart : Out x (s ++ t) = nodup-less s x t (links-nodup n link e out (head b) (s ++ x ∷ t) was) .1 in
+            let x-out : In x (s ++ t) → ⊥ = (λ i. every-in (λ y. y ≢ x) x (s ++ t) apart i refl) in
             record {
               clean = record {
                 whole = record { nodes = s ++ t; end = e; out = out; links = rw q is };
@@ -125,21 +139,9 @@ module _ (n buckets : ℕ) (key link head : ℕ → ℕ) (live : ℕ → Type 0)
               full = λ y l r. in-less y x s t (l .1) (rw all at (c .full y (l .0) r));
             }
         go c (no ne) =
-            let w = c .clean .whole in
-            let sound = c .clean .sound in
-            record {
-              clean = record {
-                whole = record {
-                  nodes = w .nodes;
-                  end = w .end;
-                  out = w .out;
-                  links = rw (heads a ne) (stays n link link′ (head a) (w .nodes) (w .end)
-                      (λ y i. keep y (sound y i .0) (λ r. ne (sym (sound y i .1) ∙ r))) (w .links));
-                };
-                sound = λ y i. let u = sound y i in ((u .0, λ r. ne (sym (u .1) ∙ ap (λ z. bucketOf (key z) buckets) r ∙ own)), u .1);
-              };
-              full = λ y l r. c .full y (l .0) r;
-            }
+            chain-stays c (heads a ne)
+            (λ y l q. (keep y l (λ r. ne (sym q ∙ r)), (l, λ r. ne (sym q ∙ ap (λ z. bucketOf (key z) buckets) r ∙ own)), refl))
+            (λ y l q. (l .0, refl))
 
     pub removed : Index n buckets key link′ head′ (λ y. live y × (y ≢ x))
     removed = record { chains = remove-chain; unique = λ y z l m q. ix .unique y z (l .0) (m .0) q }

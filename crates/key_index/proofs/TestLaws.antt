@@ -44,7 +44,10 @@ module _ (z : Shape) (s : List ℕ) {b h left : ℕ} (w : Walks z s b h left) wh
 
       pub ok-next : (left ≡ 0 → ⊥) → {q : ℕ} → GetsField z s Queue h q → (q ≡ 0 → ⊥) → d ≡ b → {m : ℕ} → GetsField z s Chain h m → Walks z s b m (left - 1)
       ok-next more tag lives e on =
-          rw (on .value) (walked-next h left w below (record { below = below; tagged = omega (arith, tag .value, lives) }) (ap (λ (y : ℕ). bucketOf y (z .buckets)) (sym (is .value)) ∙ sym ed ∙ e) (omega arith))
+          rw (on .value) (walked-next h left w below (record {
+            below = below;
+            tagged = omega (arith, tag .value, lives);
+          }) (ap (λ (y : ℕ). bucketOf y (z .buckets)) (sym (is .value)) ∙ sym ed ∙ e) (omega arith))
 
 -- ---- a node, where every chain is clean
 
@@ -61,12 +64,16 @@ module _ (z : Shape) (s : List ℕ) {x q : ℕ} (tag : GetsField z s Queue x q) 
       → {f : Found} → FirstIs (z .room) (col (cols z s Key)) (col (cols z s Chain)) k h f → {r : Bool} → r ≡ isAt f x → Decides (NodeOk z (cols z s) x) r
   node-found room below lives all {k} {b} {h} is eb eh {f} ff er =
       let there : h ≡ headOf z (cols z s) k = eh .value ∙ ap (λ (y : ℕ). getD (cols z s Bucket) y 0) eb in
-      let w : Whole (z .room) (col (cols z s Chain)) h = rw there (all .all (bucketOf k (z .buckets)) (bucket-below k (z .buckets) (room .some-buckets)) .clean .whole) in
-      rw er (decides-map (λ g. record { found = λ l. rw (there, is .value) at g }) (λ g. rw (there, is .value) (g .found (record { below = below; tagged = omega (arith, tag .value, lives) }))) (itself w x f ff))
+      let w : Whole (z .room) (col (cols z s Chain)) h =
+      rw there (all .all (bucketOf k (z .buckets)) (bucket-below k (z .buckets) (room .some-buckets)) .clean .whole) in
+      rw er (decides-map (λ g. record {
+        found = λ l. rw (there, is .value) at g;
+      }) (λ g. rw (there, is .value) (g .found (record { below = below; tagged = omega (arith, tag .value, lives) }))) (itself w x f ff))
 
 -- ---- the whole
 
-pub check-chains : (z : Shape) (s : List ℕ) {r : Bool} → Decides (All (ChainOk z (cols z s)) (z .buckets)) r → not r ≡ true → Decides (Indexes z (cols z s)) false
+pub check-chains : (z : Shape) (s : List ℕ) {r : Bool} → Decides (All (ChainOk z (cols z s)) (z .buckets)) r → not r ≡ true
+    → Decides (Indexes z (cols z s)) false
 check-chains z s d e = refuse (λ ix. d .fails (not-true _ e) (record { all = λ b h. record { clean = ix .index .chains b h .clean } }))
 
 pub check-nodes : (z : Shape) (s : List ℕ) → Room z s → {t : Bool} → Decides (All (ChainOk z (cols z s)) (z .buckets)) t → not t ≡ false

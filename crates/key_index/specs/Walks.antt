@@ -2,18 +2,14 @@
 -- Assumes nothing.
 use mathlib.Core.Path.{_≡_}
 use mathlib.Core.List.{List, [], _∷_, _++_}
-use mathlib.Core.Bool.{Bool, true, false}
+use mathlib.Core.Bool.{Bool, false}
 use Prim.Native.Nat.{ℕ, _≤_, _<_}
 use lib.Dec.{eqb}
+use Rattle.cells.specs.Columns.{pick}
 use Rattle.key_index.specs.declared.Found.{Found}
 use Rattle.key_index.specs.declared.Found.the-variants.{At, Nothing}
 use Rattle.key_index.specs.Links.{In, Links, Whole}
 use Rattle.key_index.specs.Index.{bucketOf}
-
--- a where the test says so, and b otherwise
-abbrev pick : Bool → Found → Found → Found
-pick true a b = a
-pick false a b = b
 
 -- the first of the nodes that has the key k
 unfoldable pub firstWith : (ℕ → ℕ) → ℕ → List ℕ → Found

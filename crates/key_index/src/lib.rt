@@ -20,7 +20,7 @@ pub enum Found {
 }
 
 // The bucket of a key.
-pub fn bucket_of_key(k: u64, buckets: usize) -> usize
+fn bucket_of_key(k: u64, buckets: usize) -> usize
     requires { ⌜ (0 < buckets) × (buckets ≤ 65536) ⌝ }
     ensures { λ r. ⌜ (r ≡ bucketOf k buckets) × (r < buckets) ⌝ }
 {

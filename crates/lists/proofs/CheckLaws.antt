@@ -11,10 +11,11 @@ use lib.Dec.{eqb}
 use lib.ListN.{length, getD}
 use Rattle.cells.specs.Decides.{Decides, All}
 use Rattle.cells.proofs.DecidesLaws.{refuse, decides-map, decides-eq}
+use Rattle.cells.specs.Members.{Every}
 use Rattle.nodes.specs.Nodes.{Head, Next, Prev, Queue, cols, GetsField}
 use Rattle.nodes.specs.declared.Shape.{Shape}
 use Rattle.nodes.proofs.NodesLaws.{length-cols}
-use Rattle.lists.specs.Ring.{Every, Seg, Ring, Tagged}
+use Rattle.lists.specs.Ring.{Seg, Ring, Tagged}
 use Rattle.lists.specs.Pool.{view}
 use Rattle.lists.specs.Lists.{many, Lists}
 use Rattle.lists.specs.Check.{Listed, Counted, StepOk, Home, Leads, ListOk}
@@ -24,12 +25,14 @@ use Rattle.lists.proofs.PoolLaws.{ring-view}
 
 module _ {z : Shape} {s : List ℕ} {t u : ℕ} where
   leads-on : {y k : ℕ} → y ≡ getD (cols z s Next) u 0 → StepOk z s t u y → Leads z s t k y → Leads z s t (suc k) u
-  leads-on {y} e p g = record { list = y ∷ g .list; seg = ((sym e, p .back), g .seg); nodes = (p .node, g .nodes); tags = (p .tag, g .tags); count = ap suc (g .count) }
+  leads-on {y} e p g =
+      record { list = y ∷ g .list; seg = ((sym e, p .back), g .seg); nodes = (p .node, g .nodes); tags = (p .tag, g .tags); count = ap suc (g .count) }
 
   leads-by : {y k : ℕ} → y ≡ getD (cols z s Next) u 0 → Leads z s t (suc k) u → StepOk z s t u y × Leads z s t k y
   leads-by {y} {k} e g = go (g .list) (g .seg) (g .nodes) (g .tags) (g .count)
     where
-      go : (l : List ℕ) → Seg (cols z s Next) (cols z s Prev) u l (z .room + t) → Every (λ x. x < z .room) l → Tagged (cols z s Queue) t l → length l ≡ suc k → StepOk z s t u y × Leads z s t k y
+      go : (l : List ℕ) → Seg (cols z s Next) (cols z s Prev) u l (z .room + t) → Every (λ x. x < z .room) l → Tagged (cols z s Queue) t l
+          → length l ≡ suc k → StepOk z s t u y × Leads z s t k y
       go [] h n q d = absurd (omega arith)
       go (x ∷ l) h n q d =
           let i : y ≡ x = e ∙ h .0 .0 in
@@ -65,7 +68,11 @@ module _ {z : Shape} {s : List ℕ} {t left u : ℕ} (w : Walking z s t left u) 
     pub walk-next : not r ≡ false → Walking z s t (left - 1) y
     walk-next n =
         let p : StepOk z s t u y = d .holds (not-false r n) in
-        record { near = omega (arith, p .node); whole = λ g. w .whole (rw one-less at (leads-on (e .value) p g)); part = λ h. leads-by (e .value) (rw (← one-less) at (w .part h)) .1 }
+        record {
+          near = omega (arith, p .node);
+          whole = λ g. w .whole (rw one-less at (leads-on (e .value) p g));
+          part = λ h. leads-by (e .value) (rw (← one-less) at (w .part h)) .1;
+        }
 
     pub walk-bad : not r ≡ true → Decides (ListOk z s t) false
     walk-bad n = refuse (λ h. d .fails (not-true r n) (leads-by (e .value) (rw (← one-less) at (w .part h)) .0))
@@ -107,7 +114,8 @@ module _ {z : Shape} {s : List ℕ} {a : ℕ} (ra : GetsField z s Head 4 a) wher
       pub over-main : z .room - a - b < c → Decides (Counted z s) false
       over-main h = refuse (λ k. omega (arith, k .sum, ra .value, rb .value, rc .value))
 
-      pub count-sum : {d : ℕ} → a ≤ z .room → b ≤ z .room - a → c ≤ z .room - a - b → GetsField z s Head 7 d → Decides (Counted z s) (eqb d (z .room - a - b - c))
+      pub count-sum : {d : ℕ} → a ≤ z .room → b ≤ z .room - a → c ≤ z .room - a - b → GetsField z s Head 7 d
+          → Decides (Counted z s) (eqb d (z .room - a - b - c))
       count-sum {d} i j l rd =
           decides-eq d (z .room - a - b - c) (λ e. record { sum = omega (arith, ra .value, rb .value, rc .value, rd .value) })
           (λ k. omega (arith, k .sum, ra .value, rb .value, rc .value, rd .value))
@@ -116,23 +124,55 @@ module _ {z : Shape} {s : List ℕ} {a : ℕ} (ra : GetsField z s Head 4 a) wher
 
 module _ {z : Shape} {s : List ℕ} where
   pub no-count : {r : Bool} → Decides (Counted z s) r → not r ≡ true → Decides (Listed z s) false
-  no-count {r} d n = refuse (λ l. d .fails (not-true r n) (record { sum = omega (arith, l .whole, l .lists .counts 0 (omega arith), l .lists .counts 1 (omega arith), l .lists .counts 2 (omega arith), l .lists .counts 3 (omega arith)) }))
+  no-count {r} d n =
+      refuse (λ l. d .fails (not-true r n) (record {
+        sum =
+            omega (
+              arith,
+              l .whole,
+              l .lists .counts 0 (omega arith),
+              l .lists .counts 1 (omega arith),
+              l .lists .counts 2 (omega arith),
+              l .lists .counts 3 (omega arith),
+            );
+      }))
 
   lists-chained : (f : ℕ → List ℕ) → Lists z (cols z s) f → All (ListOk z s) 4
   lists-chained f l =
       record {
-        all = λ t b. record { leads = record { list = f t; seg = l .pool .rings t b .seg; nodes = l .pool .rings t b .nodes; tags = l .pool .tags t b; count = sym (l .counts t b) } };
+        all =
+            λ t b. record {
+              leads = record {
+                list = f t;
+                seg = l .pool .rings t b .seg;
+                nodes = l .pool .rings t b .nodes;
+                tags = l .pool .tags t b;
+                count = sym (l .counts t b);
+              };
+            };
       }
 
   -- the lists are those that the links spell
   ok-lists : All (ListOk z s) 4 → Lists z (cols z s) (view (z .room) (cols z s Next))
-  ok-lists h = record { pool = record { rings = rings; tags = tags; in-q = omega (arith, length-cols z s Queue refl) }; counts = counts; in-head = omega (arith, length-cols z s Head refl) }
+  ok-lists h =
+      record {
+        pool = record { rings = rings; tags = tags; in-q = omega (arith, length-cols z s Queue refl) };
+        counts = counts;
+        in-head = omega (arith, length-cols z s Head refl);
+      }
     where
       leads : (t : ℕ) → t < 4 → Leads z s t (many (cols z s) t) (z .room + t)
       leads t b = h .all t b .leads
 
       ring : (t : ℕ) (b : t < 4) → Ring (z .room) (cols z s Next) (cols z s Prev) (z .room + t) (leads t b .list)
-      ring t b = record { seg = leads t b .seg; nodes = leads t b .nodes; low = omega arith; in-nx = omega (arith, length-cols z s Next refl); in-pv = omega (arith, length-cols z s Prev refl) }
+      ring t b =
+          record {
+            seg = leads t b .seg;
+            nodes = leads t b .nodes;
+            low = omega arith;
+            in-nx = omega (arith, length-cols z s Next refl);
+            in-pv = omega (arith, length-cols z s Prev refl);
+          }
 
       seen : (t : ℕ) (b : t < 4) → leads t b .list ≡ view (z .room) (cols z s Next) t
       seen t b = sym (ring-view (z .room) (cols z s Next) (cols z s Prev) t (leads t b .list) (ring t b))
@@ -153,4 +193,8 @@ module _ {z : Shape} {s : List ℕ} where
       to h =
           let l : Lists z (cols z s) (view (z .room) (cols z s Next)) = ok-lists h in
           let k : Counted z s = d .holds (not-false q n) in
-          record { of = view (z .room) (cols z s Next); lists = l; whole = omega (arith, k .sum, l .counts 0 (omega arith), l .counts 1 (omega arith), l .counts 2 (omega arith), l .counts 3 (omega arith)) }
+          record {
+            of = view (z .room) (cols z s Next);
+            lists = l;
+            whole = omega (arith, k .sum, l .counts 0 (omega arith), l .counts 1 (omega arith), l .counts 2 (omega arith), l .counts 3 (omega arith));
+          }

@@ -5,9 +5,9 @@ use mathlib.Core.Logic.{_≢_}
 use mathlib.Core.List.{List}
 use Prim.Native.Nat.{ℕ, _+_, _<_}
 use native.Mathlib.Omega.{arith}
-use lib.ListN.{length, getD, set, length-set}
+use lib.ListN.{length, getD, set}
 use lib.Seq.{getD-set-other}
-use Rattle.nodes.specs.Nodes.{Field, Head, Next, Prev, Queue, Cols, cols, over, withColumn, SetsField}
+use Rattle.nodes.specs.Nodes.{Field, Head, Key, Value, Next, Prev, Chain, Queue, Freq, Bucket, Rest, Cols, cols, over, withColumn}
 use Rattle.nodes.specs.declared.Shape.{Shape}
 use Rattle.nodes.proofs.OverLaws.{Other, with-other, over-with}
 use Rattle.lists.specs.Lists.{many, Lists, Untouched, unlink, link, detached, attached, Detached, Attached}
@@ -15,7 +15,8 @@ use Rattle.lists.specs.Lists.{many, Lists, Untouched, unlink, link, deta
 -- ---- what is no part of the lists
 
 pub same-all : (c : Cols) → Untouched c c
-same-all c = record { keys = refl; values = refl; chains = refl; freqs = refl; buckets = refl; rest = refl; heads-below = λ i b. refl; heads-above = λ i b. refl }
+same-all c =
+    record { keys = refl; values = refl; chains = refl; freqs = refl; buckets = refl; rest = refl; heads-below = λ i b. refl; heads-above = λ i b. refl }
 
 pub same-then : {c d e : Cols} → Untouched c d → Untouched d e → Untouched c e
 same-then a b =
@@ -28,6 +29,21 @@ same-then a b =
       rest = b .rest ∙ a .rest;
       heads-below = λ i h. b .heads-below i h ∙ a .heads-below i h;
       heads-above = λ i h. b .heads-above i h ∙ a .heads-above i h;
+    }
+
+-- columns that differ from c in the lists' own fields and in the length of list t alone
+pub same-but : {c d : Cols} {t : ℕ} → t < 4 → d Key ≡ c Key → d Value ≡ c Value → d Chain ≡ c Chain → d Freq ≡ c Freq → d Bucket ≡ c Bucket → d Rest ≡ c Rest
+    → ((i : ℕ) → i ≢ 4 + t → getD (d Head) i 0 ≡ getD (c Head) i 0) → Untouched c d
+same-but b k v n q u e h =
+    record {
+      keys = k;
+      values = v;
+      chains = n;
+      freqs = q;
+      buckets = u;
+      rest = e;
+      heads-below = λ i l. h i (omega arith);
+      heads-above = λ i l. h i (omega arith);
     }
 
 -- ---- take and push: the header's other cells, and the tags
@@ -54,11 +70,11 @@ module _ (c : Cols) (t x : ℕ) where
 module _ (c : Cols) {t : ℕ} (tK : t < 4) (x : ℕ) where
   pub detached-same : Untouched c (detached c t x)
   unfolding detached unlink over
-  detached-same = record { keys = refl; values = refl; chains = refl; freqs = refl; buckets = refl; rest = refl; heads-below = λ i b. detached-heads c t x i (omega arith); heads-above = λ i b. detached-heads c t x i (omega arith) }
+  detached-same = same-but tK refl refl refl refl refl refl (detached-heads c t x)
 
   pub attached-same : (z : Shape) → Untouched c (attached z c t x)
   unfolding attached link over
-  attached-same z = record { keys = refl; values = refl; chains = refl; freqs = refl; buckets = refl; rest = refl; heads-below = λ i b. attached-heads c t x z i (omega arith); heads-above = λ i b. attached-heads c t x z i (omega arith) }
+  attached-same z = same-but tK refl refl refl refl refl refl (attached-heads c t x z)
 
 -- the same of stores
 module _ {z : Shape} {s s′ : List ℕ} {t x : ℕ} (tK : t < 4) where
@@ -71,26 +87,16 @@ module _ {z : Shape} {s s′ : List ℕ} {t x : ℕ} (tK : t < 4) where
 -- ---- what leaves the lists alone
 
 module _ {z : Shape} {c : Cols} {f : ℕ → List ℕ} (r : Lists z c f) where
-  pub lists-frame : (d : Cols) → d Next ≡ c Next → d Prev ≡ c Prev → d Queue ≡ c Queue → ((t : ℕ) → t < 4 → many d t ≡ many c t) → length (d Head) ≡ length (c Head) → Lists z d f
+  pub lists-frame : (d : Cols) → d Next ≡ c Next → d Prev ≡ c Prev → d Queue ≡ c Queue → ((t : ℕ) → t < 4 → many d t ≡ many c t)
+      → length (d Head) ≡ length (c Head) → Lists z d f
   lists-frame d a b e h l = record { pool = rw (a, b, e) (r .pool); counts = λ t tK. h t tK ∙ r .counts t tK; in-head = rw l (r .in-head) }
 
   -- a field that is no part of them; each premise is `refl` where the field is named
   module _ (g : Field) (n : Other g Next) (p : Other g Prev) (q : Other g Queue) (h : Other g Head) where
     pub lists-with : (l : List ℕ) → Lists z (withColumn c g l) f
-    lists-with l = lists-frame (withColumn c g l) (with-other c g l Next n) (with-other c g l Prev p) (with-other c g l Queue q) (λ t b. ap (λ (k : List ℕ). getD k (4 + t) 0) (with-other c g l Head h)) (ap length (with-other c g l Head h))
+    lists-with l =
+        lists-frame (withColumn c g l) (with-other c g l Next n) (with-other c g l Prev p) (with-other c g l Queue q)
+        (λ t b. ap (λ (k : List ℕ). getD k (4 + t) 0) (with-other c g l Head h)) (ap length (with-other c g l Head h))
 
     pub lists-over : (i v : ℕ) → Lists z (over c g i v) f
     lists-over i v = rw (over-with c g i v) (lists-with (set (c g) i v))
-
-  -- a header's cell that is no length
-  pub lists-over-head : (i v : ℕ) → ((t : ℕ) → t < 4 → 4 + t ≢ i) → Lists z (over c Head i v) f
-  unfolding over
-  lists-over-head i v n = lists-frame (over c Head i v) refl refl refl (λ t b. getD-set-other (c Head) i (4 + t) v 0 (n t b)) (length-set (c Head) i v)
-
-module _ {z : Shape} {s s′ : List ℕ} {f : ℕ → List ℕ} (r : Lists z (cols z s) f) where
-  -- the same of a store that was written to
-  pub lists-wrote : {g : Field} {i v : ℕ} → SetsField z s s′ g i v → Other g Next → Other g Prev → Other g Queue → Other g Head → Lists z (cols z s′) f
-  lists-wrote {g} {i} {v} w n p q h = rw (w .columns) (lists-over r g n p q h i v)
-
-  pub lists-wrote-head : {i v : ℕ} → SetsField z s s′ Head i v → ((t : ℕ) → t < 4 → 4 + t ≢ i) → Lists z (cols z s′) f
-  lists-wrote-head {i} {v} w n = rw (w .columns) (lists-over-head r i v n)

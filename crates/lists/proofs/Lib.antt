@@ -1,7 +1,6 @@
 pub mod EveryLaws
 pub mod SegLaws
 pub mod RingLaws
-pub mod Pigeon
 pub mod PoolLaws
 pub mod StoreLaws
 pub mod ListsLaws

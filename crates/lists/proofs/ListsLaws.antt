@@ -1,19 +1,21 @@
 -- Laws of the four lists: what take and push make of them, that both may be called, where a node stands, what the ends and the lengths say.
 -- Assumes nothing.
-use mathlib.Core.Path.{_≡_, refl, sym, ap, _∙_, subst}
+use mathlib.Core.Path.{_≡_, sym, ap, _∙_, subst}
 use mathlib.Core.Logic.{_≢_}
-use mathlib.Core.List.{List, [], _∷_, _++_, append-nil}
+use mathlib.Core.List.{List, [], _∷_, _++_}
 use Prim.Native.Nat.{ℕ, zero, suc, _+_, _-_, _≤_, _<_}
 use native.Mathlib.Omega.{arith}
 use lib.ListN.{length, getD, set, length-set, length-append}
 use lib.Seq.{getD-set-same, getD-set-other}
+use Rattle.cells.specs.Members.{Out, Among}
 use Rattle.nodes.specs.Nodes.{Head, Next, Prev, Queue, Cols, cols, over, GetsField}
 use Rattle.nodes.specs.declared.Shape.{Shape}
-use Rattle.lists.specs.Ring.{Out, Among, First, Last, Ring, Tagged}
+use Rattle.lists.specs.Ring.{First, Last, Ring, Tagged}
 use Rattle.lists.specs.Pool.{Absent, upd, view}
 use Rattle.lists.specs.Lists.{many, Lists, inAll, unlink, link, detached, attached, CanDetach, Detached, CanAttach, Attached}
-use Rattle.lists.proofs.RingLaws.{attachNx, attachPv, detachNx, detachPv, Member, first-back, ring-first, ring-last, ring-empty, ring-alone}
-use Rattle.lists.proofs.PoolLaws.{upd-all, pool-member, pool-tag, pool-elsewhere, pool-taken, pool-gone, pool-pushed, pool-view, cat, pool-few, pool-full, ring-short, ring-shorter}
+use Rattle.lists.proofs.RingLaws.{attachNx, attachPv, detachNx, detachPv, Member, first-back, ring-first, ring-last}
+use Rattle.lists.proofs.PoolLaws.{upd-all, pool-member, pool-tag, pool-elsewhere, pool-taken, pool-gone, pool-pushed, pool-view, cat}
+use Rattle.lists.proofs.PoolLaws.{pool-full, ring-shorter}
 
 -- what holds of 0 to 3 holds below 4
 pub four : (P : ℕ → Type 0) → P 0 → P 1 → P 2 → P 3 → (t : ℕ) → t < 4 → P t
@@ -24,10 +26,12 @@ four P a b c d (suc (suc (suc zero))) h = d
 four P a b c d (suc (suc (suc (suc t)))) h = absurd (omega arith)
 
 -- the length of list t was written; the others' stand where they stood
-count-set : (h : List ℕ) (f : ℕ → List ℕ) → ((t : ℕ) → t < 4 → getD h (4 + t) 0 ≡ length (f t)) → 8 ≤ length h → (i : ℕ) → i < 4 → (l : List ℕ) (n : ℕ) → n ≡ length l
+count-set : (h : List ℕ) (f : ℕ → List ℕ) → ((t : ℕ) → t < 4 → getD h (4 + t) 0 ≡ length (f t)) → 8 ≤ length h → (i : ℕ) → i < 4
+    → (l : List ℕ) (n : ℕ) → n ≡ length l
     → (t : ℕ) → t < 4 → getD (set h (4 + i) n) (4 + t) 0 ≡ length (upd f i l t)
 count-set h f k b i iK l n e =
-    upd-all (λ t m. t < 4 → getD (set h (4 + i) n) (4 + t) 0 ≡ length m) f i l (λ _. getD-set-same h (4 + i) n 0 (omega arith) ∙ e) (λ t ne tK. getD-set-other h (4 + i) (4 + t) n 0 (omega arith) ∙ k t tK)
+    upd-all (λ t m. t < 4 → getD (set h (4 + i) n) (4 + t) 0 ≡ length m) f i l (λ _. getD-set-same h (4 + i) n 0 (omega arith) ∙ e)
+    (λ t ne tK. getD-set-other h (4 + i) (4 + t) n 0 (omega arith) ∙ k t tK)
 
 module _ {z : Shape} {c : Cols} {f : ℕ → List ℕ} (r : Lists z c f) where
   -- ---- take
@@ -80,31 +84,14 @@ module _ {z : Shape} {c : Cols} {f : ℕ → List ℕ} (r : Lists z c f) where
 
   module _ {t : ℕ} (tK : t < 4) where
     -- the same by a member's place
-    module _ {x : ℕ} where
-      pub among-node : Among x (f t) → x < z .room
-      among-node p = lists-node tK (p .front) x (p .back) (p .is)
-
-      pub last-gone : (p : Last x (f t)) → Absent 4 (upd f t (p .front)) x
-      last-gone p = rw (append-nil (p .front)) at (lists-gone tK (p .front) x [] (p .is))
-
-      pub first-gone : (p : First x (f t)) → Absent 4 (upd f t (p .back)) x
-      first-gone p = lists-gone tK [] x (p .back) (p .is)
+    pub among-node : {x : ℕ} → Among x (f t) → x < z .room
+    among-node {x} p = lists-node tK (p .front) x (p .back) (p .is)
 
     pub lists-ring : Ring (z .room) (c Next) (c Prev) (z .room + t) (f t)
     lists-ring = r .pool .rings t tK
 
-    pub lists-short : many c t ≤ z .room
-    lists-short = omega (arith, r .counts t tK, ring-short (z .room) (c Next) (c Prev) (z .room + t) (f t) lists-ring)
-
     pub lists-view : view (z .room) (c Next) t ≡ f t
     lists-view = pool-view (z .room) 4 (c Next) (c Prev) (c Queue) f (r .pool) t tK
-
-    pub lists-empty : many c t ≡ 0 → f t ≡ []
-    lists-empty e = nil (f t) (omega (arith, r .counts t tK))
-      where
-        nil : (l : List ℕ) → length l ≡ 0 → l ≡ []
-        nil [] h = refl
-        nil (x ∷ l) h = absurd (omega arith)
 
     -- the sentinel's previous is the oldest node, its next the newest
     pub lists-tail : 1 ≤ many c t → Last (getD (c Prev) (z .room + t) 0) (f t)
@@ -113,22 +100,15 @@ module _ {z : Shape} {c : Cols} {f : ℕ → List ℕ} (r : Lists z c f) where
     pub lists-head : 1 ≤ many c t → First (getD (c Next) (z .room + t) 0) (f t)
     lists-head h = ring-first (z .room) (c Next) (c Prev) (z .room + t) (f t) lists-ring (omega (arith, r .counts t tK))
 
-    -- where there is none it is its own
-    pub lists-none : getD (c Prev) (z .room + t) 0 ≡ z .room + t → many c t ≡ 0
-    lists-none e = r .counts t tK ∙ ap length (ring-empty (z .room) (c Next) (c Prev) (z .room + t) (f t) lists-ring e)
-
-    pub lists-alone : many c t ≡ 0 → getD (c Prev) (z .room + t) 0 ≡ z .room + t
-    lists-alone e = ring-alone (z .room) (c Next) (c Prev) (z .room + t) (f t) lists-ring (lists-empty e)
-
-  -- the lists are determined by the columns
-  pub lists-unique : {g : ℕ → List ℕ} → Lists z c g → (t : ℕ) → t < 4 → f t ≡ g t
-  lists-unique {g} r′ t tK = sym (lists-view tK) ∙ pool-view (z .room) 4 (c Next) (c Prev) (c Queue) g (r′ .pool) t tK
-
   -- lists that are the same below 4 are the same
   pub lists-ext : {g : ℕ → List ℕ} → ((t : ℕ) → t < 4 → f t ≡ g t) → Lists z c g
   lists-ext {g} e =
       record {
-        pool = record { rings = λ t b. subst (λ (l : List ℕ). Ring (z .room) (c Next) (c Prev) (z .room + t) l) (e t b) (r .pool .rings t b); tags = λ t b. subst (λ (l : List ℕ). Tagged (c Queue) t l) (e t b) (r .pool .tags t b); in-q = r .pool .in-q };
+        pool = record {
+          rings = λ t b. subst (λ (l : List ℕ). Ring (z .room) (c Next) (c Prev) (z .room + t) l) (e t b) (r .pool .rings t b);
+          tags = λ t b. subst (λ (l : List ℕ). Tagged (c Queue) t l) (e t b) (r .pool .tags t b);
+          in-q = r .pool .in-q;
+        };
         counts = λ t b. r .counts t b ∙ ap length (e t b);
         in-head = r .in-head;
       }
@@ -136,10 +116,14 @@ module _ {z : Shape} {c : Cols} {f : ℕ → List ℕ} (r : Lists z c f) where
   -- ---- how many there are in all
 
   all-four : length (cat f 4) ≡ inAll f
-  all-four = omega (arith, length-append (f 3) (f 2 ++ (f 1 ++ (f 0 ++ []))), length-append (f 2) (f 1 ++ (f 0 ++ [])), length-append (f 1) (f 0 ++ []), length-append (f 0) [])
-
-  pub lists-few : inAll f ≤ z .room
-  lists-few = omega (arith, all-four, pool-few (z .room) 4 (c Next) (c Prev) (c Queue) f (r .pool))
+  all-four =
+      omega (
+        arith,
+        length-append (f 3) (f 2 ++ (f 1 ++ (f 0 ++ []))),
+        length-append (f 2) (f 1 ++ (f 0 ++ [])),
+        length-append (f 1) (f 0 ++ []),
+        length-append (f 0) [],
+      )
 
   -- where every node is in a list, its tag says in which
   module _ (w : inAll f ≡ z .room) (x : ℕ) (b : x < z .room) where
@@ -166,41 +150,26 @@ module _ {z : Shape} {s : List ℕ} {f : ℕ → List ℕ} (r : Lists z (cols z 
 
   pub can-push : {x : ℕ} → Absent 4 f x → x < z .room → CanAttach z s t x
   can-push {x} o b =
-      let k : (getD (cols z s Prev) (getD (cols z s Next) (z .room + t) 0) 0 ≡ z .room + t) × (getD (cols z s Next) (z .room + t) 0 ≤ z .room + t) = first-back (z .room) (cols z s Next) (cols z s Prev) (z .room + t) (f t) (lists-ring r tK) in
-      record { list = tK; node = b; next-in = omega arith; space = omega (arith, r .counts t tK, ring-shorter (z .room) (cols z s Next) (cols z s Prev) (z .room + t) (f t) (lists-ring r tK) x b (o t tK)) }
+      let k : (getD (cols z s Prev) (getD (cols z s Next) (z .room + t) 0) 0 ≡ z .room + t) × (getD (cols z s Next) (z .room + t) 0 ≤ z .room + t) =
+      first-back (z .room) (cols z s Next) (cols z s Prev) (z .room + t) (f t) (lists-ring r tK) in
+      record {
+        list = tK;
+        node = b;
+        next-in = omega arith;
+        space = omega (arith, r .counts t tK, ring-shorter (z .room) (cols z s Next) (cols z s Prev) (z .room + t) (f t) (lists-ring r tK) x b (o t tK));
+      }
 
-  -- what was read of a list is its length and its ends
-  module _ {n : ℕ} (a : GetsField z s Head (4 + t) n) where
-    pub read-length : n ≡ length (f t)
-    read-length = a .value ∙ r .counts t tK
-
-    pub read-empty : n ≡ 0 → f t ≡ []
-    read-empty e = lists-empty r tK (sym (a .value) ∙ e)
-
-    pub read-tail : {x : ℕ} → 1 ≤ n → GetsField z s Prev (z .room + t) x → Last x (f t)
-    read-tail h p = rw (p .value) (lists-tail r tK (omega (arith, a .value)))
-
-    pub read-head : {x : ℕ} → 1 ≤ n → GetsField z s Next (z .room + t) x → First x (f t)
-    read-head h p = rw (p .value) (lists-head r tK (omega (arith, a .value)))
+  -- what was read of a list is its length
+  pub read-length : {n : ℕ} → GetsField z s Head (4 + t) n → n ≡ length (f t)
+  read-length a = a .value ∙ r .counts t tK
 
   -- take and push, of stores
   pub lists-took : {s′ : List ℕ} {x : ℕ} → Detached z s s′ t x → (a b : List ℕ) → f t ≡ a ++ x ∷ b → Lists z (cols z s′) (upd f t (a ++ b))
   lists-took {s′} {x} w a b e = rw (w .columns) (lists-take r tK a x b e)
 
-  -- an end is taken
-  module _ {s′ : List ℕ} {x : ℕ} (w : Detached z s s′ t x) where
-    pub took-last : (p : Last x (f t)) → Lists z (cols z s′) (upd f t (p .front))
-    took-last p = rw (append-nil (p .front)) at (lists-took w (p .front) [] (p .is))
-
-    pub took-first : (p : First x (f t)) → Lists z (cols z s′) (upd f t (p .back))
-    took-first p = lists-took w [] (p .back) (p .is)
-
   pub lists-pushed : {s′ : List ℕ} {x : ℕ} → Attached z s s′ t x → Absent 4 f x → x < z .room → Lists z (cols z s′) (upd f t (x ∷ f t))
   lists-pushed w o b = rw (w .columns) (lists-push r o b tK)
 
--- the ends are members
-pub last-among : {x : ℕ} {l : List ℕ} → Last x l → Among x l
-last-among p = record { front = p .front; back = []; is = p .is }
-
+-- an end is a member
 pub first-among : {x : ℕ} {l : List ℕ} → First x l → Among x l
 first-among p = record { front = []; back = p .back; is = p .is }

@@ -1,15 +1,17 @@
 -- Laws of rings: a node more, a node less, another ring's change, the two ends, the walk.
 -- Assumes nothing.
-use mathlib.Core.Path.{_≡_, refl, sym, ap, subst}
+use mathlib.Core.Path.{_≡_, refl, sym, ap}
 use mathlib.Core.Logic.{_≢_}
 use mathlib.Core.List.{List, [], _∷_, _++_}
 use Prim.Native.Nat.{ℕ, _≤_, _<_}
 use native.Mathlib.Omega.{arith}
 use native.Mathlib.Nat.{le-refl}
 use lib.ListN.{length, getD, set, length-set}
-use Rattle.lists.specs.Ring.{Every, Out, First, Last, Seg, Ring, trail}
-use Rattle.lists.proofs.EveryLaws.{every-map, every-left, every-right, every-less, every-at, high}
-use Rattle.lists.proofs.SegLaws.{seg-nx, seg-pv, out-nx, out-pv, seg-split, seg-unique, seg-once, keep, seg-detach, seg-attach, back, forth, seg-last, seg-walk}
+use Rattle.cells.proofs.MembersLaws.{every-map, every-left, every-right, every-less, every-at}
+use Rattle.cells.specs.Members.{Every, Out}
+use Rattle.lists.specs.Ring.{First, Last, Seg, Ring, trail}
+use Rattle.lists.proofs.EveryLaws.{high}
+use Rattle.lists.proofs.SegLaws.{seg-nx, seg-pv, out-pv, seg-split, seg-once, keep, seg-detach, seg-attach, back, forth, seg-last, seg-walk}
 
 -- the columns after x is put at the head of s
 unfoldable pub attachNx : List ℕ → ℕ → ℕ → List ℕ
@@ -30,29 +32,30 @@ module _ (N : ℕ) (nx pv : List ℕ) (s : ℕ) (l : List ℕ) (r : Ring N nx pv
   ring-nx i w o = record { seg = seg-nx nx pv i w s l s o (r .seg); nodes = r .nodes; low = r .low; in-nx = rw length-set (r .in-nx); in-pv = r .in-pv }
 
   pub ring-pv : (i w : ℕ) → Out i (s ∷ l) → Ring N nx (set pv i w) s l
-  ring-pv i w o = record { seg = seg-pv nx pv i w s l s (o .1) (o .0) (r .seg); nodes = r .nodes; low = r .low; in-nx = r .in-nx; in-pv = rw length-set (r .in-pv) }
+  ring-pv i w o =
+      record { seg = seg-pv nx pv i w s l s (o .1) (o .0) (r .seg); nodes = r .nodes; low = r .low; in-nx = r .in-nx; in-pv = rw length-set (r .in-pv) }
 
   -- the sentinel is no member of its list
   pub ring-out : Out s l
   ring-out = high N s l (r .low) (r .nodes)
 
-  -- what points outside the ring is outside
-  pub ring-out-nx : (i : ℕ) → Out (getD nx i 0) (s ∷ l) → Out i (s ∷ l)
-  ring-out-nx i o = out-nx nx pv i s l s (r .seg) (o .1) (o .0)
-
   pub ring-out-pv : (i : ℕ) → Out (getD pv i 0) (s ∷ l) → Out i (s ∷ l)
   ring-out-pv i o = let k : Out i l × (s ≢ i) = out-pv nx pv i s l s (r .seg) o in (k .1, k .0)
-
-  pub ring-unique : (l′ : List ℕ) → Ring N nx pv s l′ → l ≡ l′
-  ring-unique l′ r′ = seg-unique nx pv pv s s l l′ (r .seg) (r′ .seg) ring-out (high N s l′ (r′ .low) (r′ .nodes))
 
   -- the columns of another ring are left alone by a detach and by an attach
   pub detach-other : (x : ℕ) → Out x (s ∷ l) → getD nx (getD pv x 0) 0 ≡ x → getD pv (getD nx x 0) 0 ≡ x → Ring N (detachNx nx pv x) (detachPv nx pv x) s l
   unfolding detachNx detachPv
   detach-other x o np pn =
-      record { seg = keep nx pv x (getD pv x 0) (getD nx x 0) np pn s l s o (o .0) (r .seg); nodes = r .nodes; low = r .low; in-nx = rw length-set (r .in-nx); in-pv = rw length-set (r .in-pv) }
+      record {
+        seg = keep nx pv x (getD pv x 0) (getD nx x 0) np pn s l s o (o .0) (r .seg);
+        nodes = r .nodes;
+        low = r .low;
+        in-nx = rw length-set (r .in-nx);
+        in-pv = rw length-set (r .in-pv);
+      }
 
-pub attach-other : (N : ℕ) (nx pv : List ℕ) (s : ℕ) (l : List ℕ) → Ring N nx pv s l → (t x : ℕ) → Out t (s ∷ l) → Out x (s ∷ l) → getD pv (getD nx t 0) 0 ≡ t → Ring N (attachNx nx t x) (attachPv nx pv t x) s l
+pub attach-other : (N : ℕ) (nx pv : List ℕ) (s : ℕ) (l : List ℕ) → Ring N nx pv s l → (t x : ℕ) → Out t (s ∷ l) → Out x (s ∷ l)
+    → getD pv (getD nx t 0) 0 ≡ t → Ring N (attachNx nx t x) (attachPv nx pv t x) s l
 unfolding attachNx attachPv
 attach-other N nx pv s l r t x ot ox pn =
     let n : ℕ = getD nx t 0 in
@@ -69,9 +72,6 @@ module _ (N : ℕ) (nx pv : List ℕ) (s : ℕ) (l : List ℕ) (r : Ring N nx pv
   pub first-back : (getD pv (getD nx s 0) 0 ≡ s) × (getD nx s 0 ≤ s)
   first-back = let b : N ≤ s = r .low in forth nx pv s s l s (every-map l (λ y (k : y < N). omega arith) (r .nodes)) (le-refl s) (r .seg)
 
-  pub last-forth : (getD nx (getD pv s 0) 0 ≡ s) × (getD pv s 0 ≤ s)
-  last-forth = let b : N ≤ s = r .low in back nx pv s s l s (le-refl s, every-map l (λ y (k : y < N). omega arith) (r .nodes)) (r .seg)
-
   pub attach-own : (x : ℕ) → x < N → Out x l → Ring N (attachNx nx s x) (attachPv nx pv s x) s (x ∷ l)
   unfolding attachNx attachPv
   attach-own x xN o =
@@ -80,7 +80,9 @@ module _ (N : ℕ) (nx pv : List ℕ) (s : ℕ) (l : List ℕ) (r : Ring N nx pv
       let bp : s < length pv = r .in-pv in
       let ne : s ≢ x = omega arith in
       record {
-        seg = seg-attach nx pv x s bn (omega arith) (omega arith) l s (every-map l (λ y (k : y < N). omega arith) (r .nodes)) bp (ne, o) ne (ring-out N nx pv s l r) (ring-out N nx pv s l r) (r .seg);
+        seg =
+            seg-attach nx pv x s bn (omega arith) (omega arith) l s (every-map l (λ y (k : y < N). omega arith) (r .nodes)) bp (ne, o) ne
+            (ring-out N nx pv s l r) (ring-out N nx pv s l r) (r .seg);
         nodes = (xN, r .nodes);
         low = b;
         in-nx = simp length-set bn;
@@ -125,7 +127,9 @@ module _ (N : ℕ) (nx pv : List ℕ) (s : ℕ) (a : List ℕ) (x : ℕ) (b : Li
       let bp : s < length pv = r .in-pv in
       let ne : s ≢ x = omega arith in
       record {
-        seg = seg-detach nx pv x (getD pv x 0) (getD nx x 0) (m .prev-forth) (m .next-back) refl refl (omega arith) (omega arith) s a b s (ne, m .not-before) (m .not-after) ne (r .seg);
+        seg =
+            seg-detach nx pv x (getD pv x 0) (getD nx x 0) (m .prev-forth) (m .next-back) refl refl (omega arith) (omega arith) s a b s
+            (ne, m .not-before) (m .not-after) ne (r .seg);
         nodes = every-less (λ y. y < N) a x b (r .nodes);
         low = bN;
         in-nx = simp length-set bn;
@@ -136,22 +140,10 @@ module _ (N : ℕ) (nx pv : List ℕ) (s : ℕ) where
   pub ring-walk : (l : List ℕ) (k : ℕ) → Ring N nx pv s l → length l ≤ k → trail nx s k s ≡ l
   ring-walk l k r le = seg-walk nx pv s l s k (r .seg) (ring-out N nx pv s l r) le
 
-  -- the sentinel's previous is the last node, and the sentinel itself where there is none
+  -- the sentinel's previous is the last node
   pub ring-last : (l : List ℕ) → Ring N nx pv s l → 1 ≤ length l → Last (getD pv s 0) l
   ring-last [] r h = absurd (omega arith)
   ring-last (w ∷ l) r h = seg-last nx pv s w l s (r .seg)
-
-  pub ring-empty : (l : List ℕ) → Ring N nx pv s l → getD pv s 0 ≡ s → l ≡ []
-  ring-empty [] r e = refl
-  ring-empty (w ∷ l) r e =
-      let t : Last (getD pv s 0) (w ∷ l) = seg-last nx pv s w l s (r .seg) in
-      let b : N ≤ s = r .low in
-      let c : getD pv s 0 < N = every-at (λ y. y < N) (t .front) (getD pv s 0) [] (subst (λ (k : List ℕ). Every (λ y. y < N) k) (t .is) (r .nodes)) in
-      absurd (omega arith)
-
-  pub ring-alone : (l : List ℕ) → Ring N nx pv s l → l ≡ [] → getD pv s 0 ≡ s
-  ring-alone [] r e = r .seg .1
-  ring-alone (w ∷ l) r e = absurd (omega (arith, ap length e))
 
   -- its next is the first
   pub ring-first : (l : List ℕ) → Ring N nx pv s l → 1 ≤ length l → First (getD nx s 0) l

@@ -9,8 +9,9 @@ use native.Mathlib.Nat.{le-refl}
 use borrow.Author.Tests.{eq-eqb, ne-eqb}
 use lib.ListN.{length, getD, set, length-set}
 use lib.Seq.{getD-set-same, getD-set-other}
-use Rattle.lists.specs.Ring.{Every, Out, Last, Link, Seg, trail}
-use Rattle.lists.proofs.EveryLaws.{every-right}
+use Rattle.cells.proofs.MembersLaws.{every-right}
+use Rattle.cells.specs.Members.{Every, Out}
+use Rattle.lists.specs.Ring.{Last, Link, Seg, trail}
 
 module _ (nx pv : List ℕ) where
   -- a store at an index that the segment does not read
@@ -52,8 +53,10 @@ module _ (nx pv : List ℕ) where
   -- so a way that ends where it has not been does not come back to its start
   no-return-from : (x : ℕ) (b : List ℕ) (v : ℕ) → Seg nx pv x b v → Out v b → (w : ℕ) (c : List ℕ) → Seg nx pv w c v → Out v c → length c ≤ length b → Out x c
   no-return-from x b v h o w [] k p le = tt
-  no-return-from x b v h o w (y ∷ c) k p le =
-      (λ e. let z : c ≡ b = seg-unique pv x v c b (rw e at (k .1)) h (p .1) o in omega (arith, ap length z), no-return-from x b v h o y c (k .1) (p .1) (omega arith))
+  no-return-from x b v h o w (y ∷ c) k p le = (
+    λ e. let z : c ≡ b = seg-unique pv x v c b (rw e at (k .1)) h (p .1) o in omega (arith, ap length z),
+    no-return-from x b v h o y c (k .1) (p .1) (omega arith),
+  )
 
   pub no-return : (x : ℕ) (b : List ℕ) (v : ℕ) → Seg nx pv x b v → Out v b → Out x b
   no-return x b v h o = no-return-from x b v h o x b h o (le-refl (length b))
@@ -82,15 +85,23 @@ module _ (nx pv : List ℕ) (x p n : ℕ) (np : getD nx p 0 ≡ x) (pn : getD pv
     pub seg-detach : (u : ℕ) (a b : List ℕ) (v : ℕ) → Out x (u ∷ a) → Out x b → v ≢ x → Seg nx pv u (a ++ x ∷ b) v → Seg (set nx p n) (set pv n p) u (a ++ b) v
     seg-detach u [] [] v o q m h = joined u v (sym (h .0 .1) ∙ xp) (sym (h .1 .0) ∙ xn)
     seg-detach u [] (y ∷ b) v o q m h = (joined u y (sym (h .0 .1) ∙ xp) (sym (h .1 .0 .0) ∙ xn), keep y b v q m (h .1 .1))
-    seg-detach u (w ∷ a) b v o q m h =
-        ((getD-set-other nx p u n 0 (λ e. o .1 .0 (sym (h .0 .0) ∙ ap (λ (k : ℕ). getD nx k 0) e ∙ np)) ∙ h .0 .0, getD-set-other pv n w p 0 (λ e. o .0 (sym (h .0 .1) ∙ ap (λ (k : ℕ). getD pv k 0) e ∙ pn)) ∙ h .0 .1), seg-detach w a b v (o .1) q m (h .1))
+    seg-detach u (w ∷ a) b v o q m h = (
+      (
+        getD-set-other nx p u n 0 (λ e. o .1 .0 (sym (h .0 .0) ∙ ap (λ (k : ℕ). getD nx k 0) e ∙ np)) ∙ h .0 .0,
+        getD-set-other pv n w p 0 (λ e. o .0 (sym (h .0 .1) ∙ ap (λ (k : ℕ). getD pv k 0) e ∙ pn)) ∙ h .0 .1,
+      ),
+      seg-detach w a b v (o .1) q m (h .1),
+    )
 
 -- ---- what an attach does to a segment
 
 module _ (nx pv : List ℕ) (x u : ℕ) (ul : u < length nx) (xl : x < length nx) (xm : x < length pv) where
-  links : (n : ℕ) → n < length pv → u ≢ x → n ≢ x → Link (set (set nx x n) u x) (set (set pv x u) n x) u x × Link (set (set nx x n) u x) (set (set pv x u) n x) x n
-  links n nl ux ne =
-      ((getD-set-same (set nx x n) u x 0 (rw length-set ul), getD-set-other (set pv x u) n x x 0 (λ e. ne (sym e)) ∙ getD-set-same pv x u 0 xm), (getD-set-other (set nx x n) u x x 0 (λ e. ux (sym e)) ∙ getD-set-same nx x n 0 xl, getD-set-same (set pv x u) n x 0 (rw length-set nl)))
+  links : (n : ℕ) → n < length pv → u ≢ x → n ≢ x
+      → Link (set (set nx x n) u x) (set (set pv x u) n x) u x × Link (set (set nx x n) u x) (set (set pv x u) n x) x n
+  links n nl ux ne = (
+    (getD-set-same (set nx x n) u x 0 (rw length-set ul), getD-set-other (set pv x u) n x x 0 (λ e. ne (sym e)) ∙ getD-set-same pv x u 0 xm),
+    (getD-set-other (set nx x n) u x x 0 (λ e. ux (sym e)) ∙ getD-set-same nx x n 0 xl, getD-set-same (set pv x u) n x 0 (rw length-set nl)),
+  )
 
   -- u's list gets x in front
   pub seg-attach : (l : List ℕ) (v : ℕ) → Every (λ y. y < length pv) l → v < length pv → Out x (u ∷ l) → v ≢ x → Out u l → Out v l → Seg nx pv u l v
@@ -119,7 +130,8 @@ module _ (nx pv : List ℕ) where
 
   pub seg-last : (u w : ℕ) (l : List ℕ) (v : ℕ) → Seg nx pv u (w ∷ l) v → Last (getD pv v 0) (w ∷ l)
   seg-last u w [] v h = record { front = []; is = rw (h .1 .1) }
-  seg-last u w (y ∷ l) v h = let t : Last (getD pv v 0) (y ∷ l) = seg-last w y l v (h .1) in record { front = w ∷ t .front; is = ap (λ (k : List ℕ). w ∷ k) (t .is) }
+  seg-last u w (y ∷ l) v h =
+      let t : Last (getD pv v 0) (y ∷ l) = seg-last w y l v (h .1) in record { front = w ∷ t .front; is = ap (λ (k : List ℕ). w ∷ k) (t .is) }
 
   pub seg-walk : (u : ℕ) (l : List ℕ) (v k : ℕ) → Seg nx pv u l v → Out v l → length l ≤ k → trail nx v k u ≡ l
   unfolding trail

@@ -4,9 +4,10 @@ use mathlib.Core.Path.{_≡_}
 use mathlib.Core.List.{List}
 use Prim.Native.Nat.{ℕ, _+_, _<_}
 use lib.ListN.{length, getD}
+use Rattle.cells.specs.Members.{Every}
 use Rattle.nodes.specs.Nodes.{Next, Prev, Queue, cols}
 use Rattle.nodes.specs.declared.Shape.{Shape}
-use Rattle.lists.specs.Ring.{Every, Seg, Tagged}
+use Rattle.lists.specs.Ring.{Seg, Tagged}
 use Rattle.lists.specs.Lists.{Lists, many, inAll}
 
 -- the store has four lists as its header says, and every node is in one of them

@@ -1,4 +1,5 @@
--- The four lists of the store: 0 Free, 1 Small, 2 Main, 3 Ghosts, newest first. List t has the sentinel room + t; its nodes have t in the field Queue; the header's cell 4 + t has its length.
+-- The four lists of the store: 0 Free, 1 Small, 2 Main, 3 Ghosts, newest first. List t has the sentinel room + t; its nodes have
+-- t in the field Queue; the header's cell 4 + t has its length.
 -- Assumes nothing.
 use mathlib.Core.Path.{_≡_}
 use mathlib.Core.List.{List}

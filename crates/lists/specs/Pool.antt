@@ -5,7 +5,8 @@ use Prim.Native.Nat.{ℕ, _+_, _≤_, _<_}
 use lib.Dec.{eqb}
 use lib.ListN.{length}
 use Rattle.cells.specs.Columns.{pick}
-use Rattle.lists.specs.Ring.{Ring, Tagged, Out, trail}
+use Rattle.cells.specs.Members.{Out}
+use Rattle.lists.specs.Ring.{Ring, Tagged, trail}
 
 -- f with l in place of its list i
 abbrev pub upd : (ℕ → List ℕ) → ℕ → List ℕ → ℕ → List ℕ

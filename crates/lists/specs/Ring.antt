@@ -1,27 +1,12 @@
 -- Circular doubly linked lists with a sentinel, over two columns: `nx` holds each node's next, `pv` each node's previous.
 -- Assumes nothing.
 use mathlib.Core.Path.{_≡_}
-use mathlib.Core.Logic.{_≢_}
 use mathlib.Core.List.{List, [], _∷_, _++_}
 use Prim.Native.Nat.{ℕ, zero, suc, _≤_, _<_}
 use lib.Dec.{eqb}
 use lib.ListN.{length, getD}
 use Rattle.cells.specs.Columns.{pick}
-
--- P of every member
-abbrev pub Every : (ℕ → Type 0) → List ℕ → Type 0
-Every P [] = Unit {0}
-Every P (x ∷ l) = P x × Every P l
-
--- i is no member
-abbrev pub Out : ℕ → List ℕ → Type 0
-Out i l = Every (λ y. y ≢ i) l
-
--- x is a member, and where it stands
-pub record Among (x : ℕ) (l : List ℕ) : Type 0 where
-  pub front : List ℕ
-  pub back : List ℕ
-  pub is : l ≡ front ++ x ∷ back
+pub use Rattle.cells.specs.Members.{Every, Out, Among}
 
 -- x is the first member
 pub record First (x : ℕ) (l : List ℕ) : Type 0 where

@@ -8,7 +8,6 @@ use native.Mathlib.Decide.{ℕ-discrete, decLt}
 use native.Mathlib.Omega.{arith}
 use lib.Dec.{eqb}
 use lib.ListN.{length, getD, set, drop, List·getD-eq-default}
-use lib.Seq.{getD-set-same, getD-set-other}
 use borrow.Author.Tests.{ne-eqb, eq-eqb}
 use Rattle.cells.specs.Cells.{le, putLe, Bytes}
 use Rattle.cells.specs.Columns.{Span, cell, column, putCell, pick}
@@ -17,7 +16,7 @@ use Rattle.cells.proofs.Laws.{le-lt}
 use Rattle.cells.proofs.ColumnsLaws.{getD-column, length-column}
 use Rattle.cells.proofs.LayoutLaws.{put-own, put-other, put-rest}
 use Rattle.nodes.specs.Nodes.{Field, Rest, code, used, layout, end, spanOf, cols, over, Room, SetsField, GetsField}
-use Rattle.nodes.proofs.OverLaws.{Other, over-own, over-other}
+use Rattle.nodes.proofs.OverLaws.{Other}
 use Rattle.nodes.specs.declared.Shape.{Shape}
 
 -- ---- the table is a layout
@@ -102,23 +101,3 @@ cols-rest z s = refl
 pub room-kept : {z : Shape} {s t : List ℕ} → Room z s → length t ≡ length s → Room z t
 room-kept r e =
     record { some-room = r .some-room; some-buckets = r .some-buckets; few = r .few; few-buckets = r .few-buckets; fits = rw e (r .fits) }
-
--- ---- a read after a write
-
-module _ {z : Shape} {s t : List ℕ} {f : Field} {i v : ℕ} (w : SetsField z s t f i v) where
-  -- what was written is read
-  pub read-own : {r : ℕ} → GetsField z t f i r → Other f Rest → i < spanOf z f .rows → r ≡ v
-  read-own g o h =
-      g .value ∙ rw (w .columns, over-own) (getD-set-same (cols z s f) i v 0 (rw (length-cols z s f o) h))
-
-  -- another cell of the field reads as before
-  pub read-elsewhere : {j r : ℕ} → GetsField z t f j r → (j ≡ i → ⊥) → GetsField z s f j r
-  read-elsewhere {j} g n = record { value = g .value ∙ rw (w .columns, over-own) (getD-set-other (cols z s f) i j v 0 n) }
-
-  -- another field reads as before
-  pub read-other : {g : Field} {j r : ℕ} → GetsField z t g j r → Other f g → GetsField z s g j r
-  read-other {g} {j} x o = record { value = x .value ∙ rw (w .columns, over-other (cols z s) f i v g o) }
-
-  -- what stands behind the store stays
-  pub rest-kept : Other f Rest → drop (used z) t ≡ drop (used z) s
-  rest-kept o = sym (cols-rest z t) ∙ rw (w .columns) (over-other (cols z s) f i v Rest o) ∙ cols-rest z s

@@ -74,7 +74,8 @@ module _ {z : Shape} {s : List ℕ} {t k : ℕ} (q : CanFill z s t k) {x : ℕ} 
     indexed room =
         let j : Joins z (cols z s) (withFirst z (cols z s) x k) x k = record { columns = refl } in
         rw (e .columns) (entered-index z (cols z s) x k v t
-        (index-born room (q .pooled .carries .index) fill-node (lists-tag listed (omega arith) [] x (free-first .back) (free-first .is)) (q .miss) j (q .to .above)))
+        (index-born room (q .pooled .carries .index) fill-node (lists-tag listed (omega arith) [] x (free-first .back) (free-first .is)) (q .miss) j
+        (q .to .above)))
 
     pub filled : {s₂ : List ℕ} → Relisted z s₁ s₂ 0 t x → Room z s → Filled z s s₂ t k v x
     filled {s₂} m room =

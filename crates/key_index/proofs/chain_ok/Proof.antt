@@ -15,5 +15,5 @@ pub chain-ok-spec : {M : Type 1} → statement M
 chain-ok-spec =
     tie.close
     (tie.spec Inv-loop μ-loop (λ c κs. search needs) (λ c. search walks-start) (λ c. search bad-long) (λ c κs. search needs) (λ c. search bad-free)
-    (λ c κs. search needs) (λ c κs. search needs) (λ c. search bad-stray) (λ c κs. search needs) (λ c. search needs)
-    (λ c. search needs) (λ c. search ok-next) (λ c. search ok-end))
+    (λ c κs. search needs) (λ c κs. search needs) (λ c. search bad-stray) (λ c κs. search needs) (λ c. search needs) (λ c. search needs)
+    (λ c. search ok-next) (λ c. search ok-end))

@@ -18,5 +18,5 @@ abbrev μ-loop : tie.MeasureT-loop
 pub chains-ok-spec : {M : Type 1} → statement M
 chains-ok-spec =
     tie.close
-    (tie.spec Inv-loop μ-loop (λ c. search all-start) (λ c κs. search needs) (λ c. search all-bad) (λ c. search needs) (λ c. search needs) (λ c. search all-next)
-    (λ c. search all-end))
+    (tie.spec Inv-loop μ-loop (λ c. search all-start) (λ c κs. search needs) (λ c. search all-bad) (λ c. search needs) (λ c. search needs)
+    (λ c. search all-next) (λ c. search all-end))

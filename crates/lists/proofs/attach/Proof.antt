@@ -1,4 +1,4 @@
--- `push` meets its contract: the length read, the node tagged and linked, the length written.
+-- `lists::attach` meets its contract: the length read, the node tagged and linked, the length written.
 -- Assumes nothing.
 use borrow.Author.Needs.{needs}
 use Rattle.lists.proofs.StoreLaws.{attach-link, attach-done}
@@ -9,4 +9,6 @@ ruleset laws = (needs, attach-link, attach-done)
 
 pub attach-spec : {M : Type 1} → statement M
 attach-spec =
-    tie.close (tie.spec (λ c κs. search laws) (λ c κs. search laws) (λ c. search laws) (λ c κs. search laws) (λ c. search laws) (λ c. search laws) (λ c κs. search laws) (λ c. search laws) (λ c. search laws))
+    tie.close
+    (tie.spec (λ c κs. search laws) (λ c κs. search laws) (λ c. search laws) (λ c κs. search laws) (λ c. search laws) (λ c. search laws)
+    (λ c κs. search laws) (λ c. search laws) (λ c. search laws))

@@ -1,4 +1,4 @@
--- `take` meets its contract: the length read, the node unlinked, the length written.
+-- `lists::detach` meets its contract: the length read, the node unlinked, the length written.
 -- Assumes nothing.
 use borrow.Author.Needs.{needs}
 use Rattle.lists.proofs.StoreLaws.{detach-unlink, detach-done}
@@ -9,4 +9,6 @@ ruleset laws = (needs, detach-unlink, detach-done)
 
 pub detach-spec : {M : Type 1} → statement M
 detach-spec =
-    tie.close (tie.spec (λ c κs. search laws) (λ c κs. search laws) (λ c. search laws) (λ c. search laws) (λ c κs. search laws) (λ c. search laws) (λ c. search laws))
+    tie.close
+    (tie.spec (λ c κs. search laws) (λ c κs. search laws) (λ c. search laws) (λ c. search laws) (λ c κs. search laws) (λ c. search laws)
+    (λ c. search laws))

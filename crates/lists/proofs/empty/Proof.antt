@@ -1,4 +1,4 @@
--- `empty` meets its contract: three writes.
+-- `lists::empty` meets its contract: three writes.
 -- Assumes nothing.
 use borrow.Author.Needs.{needs}
 use Rattle.lists.proofs.FreshLaws.{empty-done}
@@ -9,4 +9,6 @@ ruleset laws = (needs, empty-done)
 
 pub empty-spec : {M : Type 1} → statement M
 empty-spec =
-    tie.close (tie.spec (λ c. search laws) (λ c κs. search laws) (λ c κs. search laws) (λ c. search laws) (λ c κs. search laws) (λ c. search laws) (λ c. search laws))
+    tie.close
+    (tie.spec (λ c. search laws) (λ c κs. search laws) (λ c κs. search laws) (λ c. search laws) (λ c κs. search laws) (λ c. search laws)
+    (λ c. search laws))

@@ -1,4 +1,4 @@
--- `chained` meets its contract: what leads home from where the walk stands does so exactly if the whole list does.
+-- `lists::list_ok` meets its contract: what leads home from where the walk stands does so exactly if the whole list does.
 -- Assumes nothing.
 use borrow.Author.Needs.{needs}
 use Rattle.lists.proofs.CheckLaws.{Walking, walk-start, walk-next, walk-bad, walk-end}
@@ -15,4 +15,6 @@ ruleset laws = (needs, walk-start, walk-next, walk-bad, walk-end)
 
 pub list-ok-spec : {M : Type 1} → statement M
 list-ok-spec =
-    tie.close (tie.spec Inv-loop μ-loop (λ c κs. search laws) (λ c. search laws) (λ c. search laws) (λ c κs. search laws) (λ c κs. search laws) (λ c. search laws) (λ c. search laws) (λ c. search laws) (λ c. search laws) (λ c κs. search laws) (λ c. search laws))
+    tie.close
+    (tie.spec Inv-loop μ-loop (λ c κs. search laws) (λ c. search laws) (λ c. search laws) (λ c κs. search laws) (λ c κs. search laws)
+    (λ c. search laws) (λ c. search laws) (λ c. search laws) (λ c. search laws) (λ c κs. search laws) (λ c. search laws))

@@ -1,4 +1,4 @@
--- `all_chained` meets its contract: the lists below t are tested.
+-- `lists::lists_ok` meets its contract: the lists below t are tested.
 -- Assumes nothing.
 use borrow.Author.Needs.{needs}
 use Rattle.cells.proofs.DecidesLaws.{all-start, all-bad, all-next, all-end}
@@ -18,4 +18,6 @@ ruleset laws = (needs, all-start, all-bad, all-next, all-end)
 
 pub lists-ok-spec : {M : Type 1} → statement M
 lists-ok-spec =
-    tie.close (tie.spec Inv-loop μ-loop (λ c. search laws) (λ c κs. search laws) (λ c. search laws) (λ c. search laws) (λ c. search laws) (λ c. search laws) (λ c. search laws))
+    tie.close
+    (tie.spec Inv-loop μ-loop (λ c. search laws) (λ c κs. search laws) (λ c. search laws) (λ c. search laws) (λ c. search laws) (λ c. search laws)
+    (λ c. search laws))

@@ -5,18 +5,8 @@ use Rattle.nodes.proofs.NodesLaws.{was-read}
 use Rattle.nodes.proofs.bucket_of.Statement.{statement}
 use Rattle.nodes.proofs.bucket_of.Tie as tie
 
-returns : tie.Need-returns
-returns c = (search (needs, was-read), search needs)
-
 pub bucket-of-spec : {M : Type 1} → statement M
 bucket-of-spec =
     tie.close
-    (tie.spec
-    (λ c. search needs)
-    (λ c. search needs)
-    (λ c. search needs)
-    (λ c. search needs)
-    (λ c. search needs)
-    (λ c κs. search needs)
-    (λ c. search needs)
-    returns)
+    (tie.spec (λ c. search needs) (λ c. search needs) (λ c. search needs) (λ c. search needs) (λ c. search needs) (λ c κs. search needs)
+    (λ c. search needs) (λ c. (search (needs, was-read), search needs)))

@@ -5,8 +5,5 @@ use Rattle.nodes.proofs.NodesLaws.{was-read}
 use Rattle.nodes.proofs.key_of.Statement.{statement}
 use Rattle.nodes.proofs.key_of.Tie as tie
 
-returns : tie.Need-returns
-returns c = search (needs, was-read)
-
 pub key-of-spec : {M : Type 1} → statement M
-key-of-spec = tie.close (tie.spec (λ c. search needs) (λ c. search needs) (λ c κs. search needs) returns)
+key-of-spec = tie.close (tie.spec (λ c. search needs) (λ c. search needs) (λ c κs. search needs) (λ c. search (needs, was-read)))

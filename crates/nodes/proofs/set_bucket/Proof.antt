@@ -5,19 +5,8 @@ use Rattle.nodes.proofs.NodesLaws.{wrote}
 use Rattle.nodes.proofs.set_bucket.Statement.{statement}
 use Rattle.nodes.proofs.set_bucket.Tie as tie
 
-returns : tie.Need-returns
-returns c = search (needs, wrote)
-
 pub set-bucket-spec : {M : Type 1} → statement M
 set-bucket-spec =
     tie.close
-    (tie.spec
-    (λ c. search needs)
-    (λ c. search needs)
-    (λ c. search needs)
-    (λ c. search needs)
-    (λ c. search needs)
-    (λ c. search needs)
-    (λ c κs. search needs)
-    (λ c. search needs)
-    returns)
+    (tie.spec (λ c. search needs) (λ c. search needs) (λ c. search needs) (λ c. search needs) (λ c. search needs) (λ c. search needs)
+    (λ c κs. search needs) (λ c. search needs) (λ c. search (needs, wrote)))

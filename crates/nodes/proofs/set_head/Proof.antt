@@ -5,8 +5,5 @@ use Rattle.nodes.proofs.NodesLaws.{wrote}
 use Rattle.nodes.proofs.set_head.Statement.{statement}
 use Rattle.nodes.proofs.set_head.Tie as tie
 
-returns : tie.Need-returns
-returns c = search (needs, wrote)
-
 pub set-head-spec : {M : Type 1} → statement M
-set-head-spec = tie.close (tie.spec (λ c. search needs) (λ c. search needs) (λ c κs. search needs) (λ c. search needs) returns)
+set-head-spec = tie.close (tie.spec (λ c. search needs) (λ c. search needs) (λ c κs. search needs) (λ c. search needs) (λ c. search (needs, wrote)))

@@ -5,8 +5,5 @@ use Rattle.nodes.proofs.NodesLaws.{wrote}
 use Rattle.nodes.proofs.set_key.Statement.{statement}
 use Rattle.nodes.proofs.set_key.Tie as tie
 
-returns : tie.Need-returns
-returns c = search (needs, wrote)
-
 pub set-key-spec : {M : Type 1} → statement M
-set-key-spec = tie.close (tie.spec (λ c. search needs) (λ c. search needs) (λ c κs. search needs) (λ c. search needs) returns)
+set-key-spec = tie.close (tie.spec (λ c. search needs) (λ c. search needs) (λ c κs. search needs) (λ c. search needs) (λ c. search (needs, wrote)))

@@ -5,8 +5,5 @@ use Rattle.nodes.proofs.NodesLaws.{wrote}
 use Rattle.nodes.proofs.set_value.Statement.{statement}
 use Rattle.nodes.proofs.set_value.Tie as tie
 
-returns : tie.Need-returns
-returns c = search (needs, wrote)
-
 pub set-value-spec : {M : Type 1} → statement M
-set-value-spec = tie.close (tie.spec (λ c. search needs) (λ c. search needs) (λ c κs. search needs) (λ c. search needs) returns)
+set-value-spec = tie.close (tie.spec (λ c. search needs) (λ c. search needs) (λ c κs. search needs) (λ c. search needs) (λ c. search (needs, wrote)))

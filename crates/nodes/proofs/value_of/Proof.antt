@@ -5,8 +5,5 @@ use Rattle.nodes.proofs.NodesLaws.{was-read}
 use Rattle.nodes.proofs.value_of.Statement.{statement}
 use Rattle.nodes.proofs.value_of.Tie as tie
 
-returns : tie.Need-returns
-returns c = search (needs, was-read)
-
 pub value-of-spec : {M : Type 1} → statement M
-value-of-spec = tie.close (tie.spec (λ c. search needs) (λ c. search needs) (λ c κs. search needs) returns)
+value-of-spec = tie.close (tie.spec (λ c. search needs) (λ c. search needs) (λ c κs. search needs) (λ c. search (needs, was-read)))

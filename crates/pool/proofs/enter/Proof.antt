@@ -1,4 +1,4 @@
--- `enter` meets its contract: its writes are one change of the columns.
+-- `pool::enter` meets its contract: its writes are one change of the columns.
 -- Assumes nothing.
 use borrow.Author.Needs.{needs}
 use Rattle.pool.specs.Entry.{entered}
@@ -10,5 +10,4 @@ unfolding entered
 returns c = record { columns = cc }
 
 pub enter-spec : {M : Type 1} → statement M
-enter-spec =
-    tie.close (tie.spec (λ c κs. search needs) (λ c κs. search needs) (λ c κs. search needs) (λ c. search needs) returns)
+enter-spec = tie.close (tie.spec (λ c κs. search needs) (λ c κs. search needs) (λ c κs. search needs) (λ c. search needs) returns)

@@ -1,4 +1,4 @@
--- `fill` meets its contract: the newest free node gets the entry, and goes to the head of its list.
+-- `pool::fill` meets its contract: the newest free node gets the entry, and goes to the head of its list.
 -- Assumes nothing.
 use borrow.Author.Needs.{needs}
 use Rattle.pool.specs.Relist.{CanRelist}
@@ -18,5 +18,4 @@ relist-requires c κs =
     (search needs, g)
 
 pub fill-spec : {M : Type 1} → statement M
-fill-spec =
-    tie.close (tie.spec (λ c κs. search laws) (λ c κs. search laws) relist-requires (λ c. search laws) (λ c. search laws))
+fill-spec = tie.close (tie.spec (λ c κs. search laws) (λ c κs. search laws) relist-requires (λ c. search laws) (λ c. search laws))

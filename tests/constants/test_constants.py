@@ -19,8 +19,10 @@ HEADER = os.environ["HEADER"]
 
 # Which of the constants each place has. A place that stops having one, or comes to have another, belongs here.
 IN_HEADER = {"version", "default_small_ratio", "default_ghost_ratio", "store_bytes", "most", "most_request_bytes"}
-IN_WRAPPER = IN_HEADER | {"max_freq"}
-IN_TOOL = IN_WRAPPER | {"settings_bytes"}
+# What the settings of capacity 100 come to, where a capacity alone stands for settings.
+DEFAULTS = {"settings_capacity", "settings_small_ratio", "settings_ghost_ratio"}
+IN_WRAPPER = IN_HEADER | {"max_freq"} | DEFAULTS
+IN_TOOL = IN_HEADER | {"max_freq", "settings_bytes"}
 IN_CALLS = {"store_bytes", "most_request_bytes"}
 IN_SIZES = {"most"}
 

@@ -23,11 +23,14 @@ fn main() {
     io::write_all(STDOUT_FILENO, &S3FifoCache::VERSION);
     io::write_all(STDOUT_FILENO, b"\n");
     line(b"max_freq ", S3FifoCache::MAX_FREQ as u64);
-    let defaults = S3FifoCache::settings(1);
-    ratio(b"default_small_ratio ", defaults.small_ratio);
-    ratio(b"default_ghost_ratio ", defaults.ghost_ratio);
+    ratio(b"default_small_ratio ", S3FifoCache::DEFAULT_SMALL_RATIO);
+    ratio(b"default_ghost_ratio ", S3FifoCache::DEFAULT_GHOST_RATIO);
     line(b"store_bytes ", S3FifoCache::STORE_BYTES as u64);
     line(b"most ", rules::MOST);
     line(b"most_request_bytes ", rules::MOST_REQUEST_BYTES as u64);
     line(b"settings_bytes ", sizing::SETTINGS_BYTES as u64);
+    let settings = S3FifoCache::settings(100);
+    line(b"settings_capacity ", settings.capacity);
+    ratio(b"settings_small_ratio ", settings.small_ratio);
+    ratio(b"settings_ghost_ratio ", settings.ghost_ratio);
 }

@@ -1,8 +1,8 @@
 -- The numbers that C sees: a minus sign in an `i64`, and that the reply bytes of a call fit one.
 -- Assumes nothing.
 use mathlib.Core.Path.{_≡_, ap, sym, subst, _∙_}
-use mathlib.Core.List.{List, _++_}
-use Prim.Native.Nat.{ℕ, zero, suc, _<_, _≤_, _^_, _+_}
+use mathlib.Core.List.{List}
+use Prim.Native.Nat.{ℕ, zero, suc, _<_, _^_}
 use native.Mathlib.Omega.{arith}
 use lib.ListN.{length, drop, length-append}
 use lib.IntN.{ℤ, pos, negℤ, _-ℤ_, +ℤ-idl}
@@ -18,7 +18,7 @@ use Rattle.s3_fifo.specs.declared.Creation.{Creation}
 use Rattle.s3_fifo.specs.declared.Creation.the-variants.{Refused as NotMade}
 use Rattle.s3_fifo.specs.declared.Ran.{Ran}
 use Rattle.s3_fifo.specs.declared.Ran.the-variants.{Done, Refused}
-use Rattle.s3_fifo.specs.Calls.{Said, gave, turned, createdSays, ranSays, Follows, Called}
+use Rattle.s3_fifo.specs.Calls.{Said, turned, createdSays, ranSays, Follows, Called}
 use Rattle.mapcache.specs.Codes.{codeOf, detailIn, FitsIn, Fits}
 
 zero-minus : (n : ℕ) → n < 2 ^ 63 → toZ w64 0 -ℤ toZ w64 n ≡ negℤ (pos n)
@@ -58,6 +58,3 @@ created-turned {t = t} e en ez = turned-code t (ap createdSays e) en ez
 
 pub ran-turned : {r : Ran} {t : Turned} {n : ℕ} {z : ℤ} → r ≡ Refused t → n ≡ numberOf t → z ≡ negℤ (pos n) → z ≡ codeOf (ranSays r)
 ran-turned {t = t} e en ez = turned-code t (ap ranSays e) en ez
-
-pub ran-detail : {r : Ran} {t : Turned} {d : ℕ} → r ≡ Refused t → d ≡ detailOf t → d ≡ detailIn (ranSays r)
-ran-detail e ed = ed ∙ sym (ap (λ (r : Ran). detailIn (ranSays r)) e)

@@ -2,7 +2,7 @@
 // the reply bytes or minus the refusal's number, and the refusal's detail goes out beside it. Each function states what the call below it states.
 ghost use mathlib.Core.Path.{_≡_};
 ghost use lib.IntN.{pos, negℤ};
-ghost use Rattle.rules.specs.Verdict.{storeBytes};
+ghost use Rattle.rules.specs.Refusals.{storeBytes};
 ghost use Rattle.s3_fifo.specs.Calls.{createdSays, ranSays};
 ghost use Rattle.mapcache.specs.Codes.{codeOf, detailIn, Fits, CreatedAs, CalledAs};
 use s3_fifo::Creation;

@@ -1,6 +1,6 @@
 -- An answer of the library as the recorded files have it.
 -- Assumes nothing.
-use mathlib.Core.Path.{_≡_, ap₂, _∙_}
+use mathlib.Core.Path.{_≡_, _∙_}
 use Prim.Native.Nat.{ℕ}
 use Rattle.rules.specs.declared.Turned.{Turned}
 use Rattle.rules.specs.Refusals.{numberOf, detailOf}

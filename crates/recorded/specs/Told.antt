@@ -1,6 +1,5 @@
 -- An answer as the recorded files have it.
 -- Assumes nothing.
-use Prim.Native.Nat.{ℕ}
 use Rattle.s3_fifo.specs.Calls.{Said, gave, turned}
 use Rattle.recorded.specs.declared.Told.{Told}
 

@@ -1,11 +1,11 @@
 -- The laws of reading: the room behind a place, and what a read says of the bytes that it gave.
 -- Assumes nothing.
 use Prim.Native.Nat.{ℕ, _≤_, _<_, _-_}
-use mathlib.Core.Path.{_≡_, sym, subst, _∙_}
+use mathlib.Core.Path.{_≡_, subst}
 use mathlib.Core.List.{List}
 use native.Mathlib.Omega.{arith}
 use lib.ListN.{length, take, drop, length-take, length-drop}
-use Rattle.replay.specs.Input.{Within, AtMost}
+use Rattle.replay.specs.Input.{Within}
 use Rattle.replay.specs.declared.Piece.{Piece}
 use Rattle.replay.specs.declared.Piece.the-variants.{Bytes}
 

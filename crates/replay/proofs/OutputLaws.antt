@@ -3,17 +3,18 @@
 use mathlib.Core.Path.{_≡_, refl, sym, ap, subst, _∙_}
 use mathlib.Core.Bool.{Bool, true, false, cond, _&&_}
 use mathlib.Core.List.{List, [], _++_}
-use Prim.Native.Nat.{ℕ, _+_, _-_, _≤_, _<_}
+use Prim.Native.Nat.{ℕ, _+_, _-_, _≤_}
 use native.Mathlib.Omega.{arith}
 use native.Mathlib.Nat.{zero-add}
 use lib.Dec.{leb, leb→le}
-use lib.ListN.{length, getD, take, drop, set, length-drop}
+use lib.ListN.{length, getD, take, drop, length-drop}
 use lib.Seq.{take-all}
 use Rattle.cells.specs.Cells.{putLe}
 use Rattle.rules.specs.State.{State}
 use Rattle.rules.specs.Bytes.{mark, marks, bytesOf}
 use Rattle.rules.specs.Sizing.{Asked, asks, noSettings, settingsBytes, settingsAt, settingsOf}
-use Rattle.rules.specs.Verdict.{Verdict, refused, done, storeBytes, create, Reads, reads, call}
+use Rattle.rules.specs.Refusals.{storeBytes}
+use Rattle.rules.specs.Verdict.{Verdict, refused, done, create, Reads, reads, call}
 use Rattle.rules.proofs.TripLaws.{bytes-length}
 use Rattle.sizing.specs.declared.Settings.{Settings}
 use Rattle.rules.specs.declared.Turned.{Turned}
@@ -22,13 +23,12 @@ use Rattle.sizing.specs.declared.Read.{Read}
 use Rattle.sizing.specs.declared.Read.the-variants.{Asked as Asked·, Bad}
 use Rattle.sizing.specs.Answers.{asksOf, askedOf}
 use Rattle.wire.specs.Wire.{splice, Wrote}
-use Rattle.wire.proofs.SpliceLaws.{mark-splice, put-splice, wrote-wrote, wrote-length}
-use Rattle.store.specs.Holds.{Holds}
+use Rattle.wire.proofs.SpliceLaws.{put-splice, wrote-wrote, wrote-length}
 use Rattle.s3_fifo.specs.declared.Creation.{Creation}
 use Rattle.s3_fifo.specs.declared.Creation.the-variants.{Made, Refused}
 use Rattle.s3_fifo.specs.declared.Ran.{Ran}
 use Rattle.s3_fifo.specs.declared.Ran.the-variants.{Done, Refused as NotRun}
-use Rattle.s3_fifo.specs.Calls.{Said, gave, turned, createdSays, ranSays, ReadsAs, Settled, Follows, Created, Called}
+use Rattle.s3_fifo.specs.Calls.{Said, gave, turned, createdSays, ranSays, Settled, Follows, Created, Called}
 use Rattle.s3_fifo.proofs.OnceLaws.{reads-once}
 use Rattle.replay.specs.Output.{noRecord, noBytes, printed, onCreated, onAsked, outputFor, Finished}
 

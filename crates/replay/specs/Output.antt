@@ -3,11 +3,12 @@
 use mathlib.Core.Path.{_≡_}
 use mathlib.Core.List.{List, _++_}
 use Prim.Native.Nat.{ℕ}
-use lib.ListN.{length, drop}
+use lib.ListN.{drop}
 use Rattle.rules.specs.Bytes.{mark, bytesOf}
 use Rattle.rules.specs.Sizing.{Asked, asks, noSettings, settingsBytes, settingsOf}
 use Rattle.rules.specs.State.{State}
-use Rattle.rules.specs.Verdict.{Verdict, refused, done, storeBytes, create, reads, call}
+use Rattle.rules.specs.Refusals.{storeBytes}
+use Rattle.rules.specs.Verdict.{Verdict, refused, done, create, reads, call}
 use Rattle.wire.specs.Wire.{Wrote}
 use Rattle.s3_fifo.specs.Calls.{Said, gave, turned}
 

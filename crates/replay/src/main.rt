@@ -3,7 +3,7 @@
 ghost use mathlib.Core.Path.{_≡_};
 ghost use Prim.Native.Nat.{_-_, _≤_};
 ghost use lib.ListN.{length};
-ghost use Rattle.rules.specs.Verdict.{storeBytes};
+ghost use Rattle.rules.specs.Refusals.{storeBytes};
 ghost use Rattle.sizing.specs.Answers.{asksOf};
 ghost use Rattle.wire.specs.Wire.{Wrote};
 ghost use Rattle.s3_fifo.specs.Calls.{ranSays};

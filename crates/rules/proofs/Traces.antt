@@ -10,7 +10,8 @@ use Rattle.rules.specs.State.{Entry, State}
 use Rattle.rules.specs.Records.{GT, IN, EV, MI, HI, NW, EX, ES, EM}
 use Rattle.rules.specs.Bytes.{allWritten, encodeAll}
 use Rattle.rules.specs.Sizing.{Sized, limits, refused as misfit, sizing, sizingUpTo}
-use Rattle.rules.specs.Verdict.{Reads, damaged, reads, Verdict, refused, done, storeBytes, create, call}
+use Rattle.rules.specs.Refusals.{storeBytes}
+use Rattle.rules.specs.Verdict.{Reads, damaged, reads, Verdict, refused, done, create, call}
 
 -- the double nearest to n / 10 ^ k, as a decimal point is read
 abbrev pub dec : ℕ → ℕ → Float

@@ -1,25 +1,26 @@
 -- The laws of a whole call: each answer, and the verdict that it is.
 -- Assumes nothing.
 use mathlib.Core.Path.{_≡_, refl, sym, ap, _∙_}
-use mathlib.Core.Bool.{Bool, true, false}
-use mathlib.Core.List.{List, [], _∷_, _++_}
-use Prim.Native.Nat.{ℕ, _+_, _≤_, _<_}
+use mathlib.Core.Bool.{true}
+use mathlib.Core.List.{List, _++_}
+use Prim.Native.Nat.{ℕ, _≤_, _<_}
 use native.Mathlib.Omega.{arith}
 use native.Mathlib.Nat.{zero-add}
-use lib.ListN.{length, take, drop}
+use lib.ListN.{length, drop}
 use borrow.Author.Tests.{lt-ltb, le-ltb}
-use Rattle.nodes.specs.Nodes.{used, Rest, cols}
+use Rattle.nodes.specs.Nodes.{used}
 use Rattle.nodes.specs.declared.Shape.{Shape}
 use Rattle.nodes.proofs.NodesLaws.{cols-rest}
 use Rattle.rules.specs.State.{State}
 use Rattle.rules.specs.Requests.{run}
 use Rattle.rules.specs.Bytes.{End, whole, unknownAt, cutAt, parseFrom, parse, roomFor, encodeAll}
-use Rattle.rules.specs.Verdict.{storeBytes, mostRequestBytes, short, damaged, reads, broken, brokenAt, call}
+use Rattle.rules.specs.Refusals.{storeBytes, mostRequestBytes, broken, brokenAt}
+use Rattle.rules.specs.Verdict.{short, damaged, reads, call}
 use Rattle.wire.specs.declared.Stop.{Stop}
 use Rattle.wire.specs.declared.Stop.the-variants.{Whole, Unknown, Cut}
 use Rattle.wire.specs.declared.Survey.{Survey}
 use Rattle.wire.specs.Wire.{endAt, stopOf, surveyed, splice}
-use Rattle.store.specs.Holds.{stateIn, shapeFor, limitsIn, Held, Holds}
+use Rattle.store.specs.Holds.{stateIn, shapeFor, Held}
 use Rattle.store.proofs.HoldsLaws.{held-holds, limits-shown}
 use Rattle.soundness.specs.declared.Checked.{Checked}
 use Rattle.soundness.specs.declared.Checked.the-variants.{Sound as Sound·, Damaged}
@@ -28,7 +29,7 @@ use Rattle.rules.specs.declared.Turned.the-variants.{ShortStore, DamagedStore, 
 use Rattle.wire.specs.CarriedOut.{HasRoom}
 use Rattle.s3_fifo.specs.declared.Ran.the-variants.{Done, Refused}
 use Rattle.s3_fifo.specs.Runs.{Runs}
-use Rattle.s3_fifo.specs.Calls.{gave, Settled, Follows, Called}
+use Rattle.s3_fifo.specs.Calls.{gave, Called}
 
 -- ---- what the survey says of the verdict's rows
 

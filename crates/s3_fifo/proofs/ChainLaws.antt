@@ -3,21 +3,24 @@
 use mathlib.Core.Path.{_≡_, refl, sym, ap, ap₂, _∙_, subst}
 use mathlib.Core.Bool.{Bool, true, false, cond}
 use mathlib.Core.List.{List, [], _∷_, _++_, map}
-use Prim.Native.Nat.{ℕ, _≤_, _<_}
+use Prim.Native.Nat.{ℕ, _≤_}
 use native.Mathlib.Omega.{arith}
 use lib.Dec.{ltb}
 use lib.ListN.{length, take, drop}
 use lib.Seq.{take-at}
 use borrow.Author.Tests.{ltb-false}
 use Rattle.cells.specs.Cells.{Bytes}
+use Rattle.rules.specs.declared.Turned.{Turned}
+use Rattle.rules.specs.declared.Turned.the-variants.{ShortStore}
 use Rattle.rules.specs.State.{Limits, State, emptyAt, keyed, residents, Fine, Sound}
-use Rattle.rules.specs.Records.{Request, IN, Reply, AllNarrow, Outcome, tellFirst}
+use Rattle.rules.specs.Records.{Request, IN, AllNarrow, Outcome, tellFirst}
 use Rattle.rules.specs.Requests.{apply, run}
 use Rattle.rules.specs.Bytes.{encodeAll, parse}
 use Rattle.rules.specs.Sizing.{Sized, limits, refused as misfit, sizing}
-use Rattle.rules.specs.Verdict.{Verdict, refused as turnedBy, done, RefusalRow, unless, storeBytes, createRows, onSized, create, Reads, short, damaged, reads, runRows, finished, call}
+use Rattle.rules.specs.Refusals.{RefusalRow, storeBytes, runRows}
+use Rattle.rules.specs.Verdict.{Verdict, refused as turnedBy, done, turnedAway, unless, onSized, create, Reads, short, damaged, reads, finished, call}
 use Rattle.rules.specs.Ledger.{Answered, history}
-use Rattle.rules.proofs.SoundLaws.{run-sound, empty-sound}
+use Rattle.rules.proofs.SoundLaws.{empty-sound}
 use Rattle.rules.proofs.ParseLaws.{parse-sized}
 use Rattle.rules.proofs.RoomLaws.{encode-append}
 use Rattle.rules.proofs.LedgerLaws.{FullInsert, Demand3, demand-3-run, run-append, repliesOf, history-replies}
@@ -25,9 +28,8 @@ use Rattle.sizing.specs.declared.Settings.{Settings}
 use Rattle.sizing.proofs.AcceptedLaws.{accepted-fine, accepted-limits}
 use Rattle.store.specs.Holds.{Holds}
 use Rattle.s3_fifo.specs.declared.Creation.the-variants.{Made}
-use Rattle.s3_fifo.specs.declared.Ran.{Ran}
 use Rattle.s3_fifo.specs.declared.Ran.the-variants.{Done}
-use Rattle.s3_fifo.specs.Calls.{Said, gave, turned, createdSays, ranSays, ReadsAs, Settled, Follows, Created, Called}
+use Rattle.s3_fifo.specs.Calls.{Said, gave, turned, ranSays, ReadsAs, Follows, Created, Called}
 use Rattle.s3_fifo.specs.Chains.{limitsMade, Chain, start, accepted, refused}
 use Rattle.s3_fifo.proofs.OnceLaws.{reads-once}
 
@@ -38,13 +40,13 @@ gave-not e = let z : _≡_ {A = ℕ} 0 1 = cc in omega arith
 
 -- an answer that is no refusal passed every row
 module _ (n : ℕ) (s s′ p p′ : List ℕ) where
-  row-passed : (t : Bool) (m d : ℕ) (v : Verdict State) → Follows (cond t (turnedBy m d) v) (gave n) s s′ p p′ → Follows v (gave n) s s′ p p′
-  row-passed true m d v h = absurd (gave-not (h .0))
-  row-passed false m d v h = h
+  row-passed : (t : Bool) (why : Turned) (v : Verdict State) → Follows (cond t (turnedAway why) v) (gave n) s s′ p p′ → Follows v (gave n) s s′ p p′
+  row-passed true why v h = absurd (gave-not (h .0))
+  row-passed false why v h = h
 
   rows-passed : (rows : List RefusalRow) (v : Verdict State) → Follows (unless rows v) (gave n) s s′ p p′ → Follows v (gave n) s s′ p p′
   rows-passed [] v h = h
-  rows-passed (r ∷ rows) v h = rows-passed rows v (row-passed (r .when) (r .number) (r .detail) (unless rows v) h)
+  rows-passed (r ∷ rows) v h = rows-passed rows v (row-passed (r .when) (r .why) (unless rows v) h)
 
 -- one that is leaves the store as it was
 refused-same : (v : Verdict State) (n d : ℕ) (a : Said) (s s′ p p′ : List ℕ) → Follows v a s s′ p p′ → a ≡ turned n d → s′ ≡ s
@@ -63,7 +65,7 @@ begin : (a : Sized) (s s′ : List ℕ) {M : Limits} → ((L : Limits) → a ≡
 begin (misfit n d) s s′ f h = absurd (gave-not (h .0))
 begin (limits L) s s′ {M} f h = subst (λ (K : Limits). Begun K s′) (f L refl .1) (pick (ltb (length s) storeBytes) refl h)
   where
-    pick : (t : Bool) → ltb (length s) storeBytes ≡ t → Follows (cond t (turnedBy 6 0) (done (emptyAt L) [])) (gave 0) s s′ [] [] → Begun L s′
+    pick : (t : Bool) → ltb (length s) storeBytes ≡ t → Follows (cond t (turnedAway ShortStore) (done (emptyAt L) [])) (gave 0) s s′ [] [] → Begun L s′
     pick true e g = absurd (gave-not (g .0))
     pick false e g = record { fine = f L refl .0; holds = g .1 .holds; long = omega (arith, ltb-false (length s) storeBytes e, g .1 .same-length) }
 

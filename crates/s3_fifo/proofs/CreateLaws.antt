@@ -1,17 +1,15 @@
 -- The laws of creation: each answer, and the verdict that it is.
 -- Assumes nothing.
-use mathlib.Core.Path.{_≡_, refl, sym, ap, _∙_, subst}
-use mathlib.Core.Bool.{true, false}
-use mathlib.Core.List.{List, []}
+use mathlib.Core.Path.{_≡_, refl, sym, ap, _∙_}
+use mathlib.Core.List.{List}
 use Prim.Native.Nat.{ℕ, _≤_, _<_}
-use native.Mathlib.Omega.{arith}
-use lib.ListN.{length, drop}
+use lib.ListN.{length}
 use borrow.Author.Tests.{lt-ltb, le-ltb}
-use Rattle.nodes.specs.Nodes.{used, Rest, cols}
 use Rattle.nodes.proofs.NodesLaws.{cols-rest}
-use Rattle.rules.specs.State.{most, emptyAt, Fine}
-use Rattle.rules.specs.Sizing.{limits, refused as misfit, sizing}
-use Rattle.rules.specs.Verdict.{storeBytes, create, onSized}
+use Rattle.rules.specs.State.{most, Fine}
+use Rattle.rules.specs.Sizing.{sizing}
+use Rattle.rules.specs.Refusals.{storeBytes}
+use Rattle.rules.specs.Verdict.{create}
 use Rattle.sizing.specs.declared.Settings.{Settings}
 use Rattle.sizing.specs.declared.Limits.{Limits}
 use Rattle.rules.specs.declared.Turned.{Turned}
@@ -23,9 +21,8 @@ use Rattle.sizing.proofs.AcceptedLaws.{accepted-fine}
 use Rattle.store.specs.Holds.{shapeFor}
 use Rattle.store.specs.Created.{SetUp as CreatedIn}
 use Rattle.store.proofs.CreatedLaws.{created-holds}
-use Rattle.s3_fifo.specs.declared.Creation.{Creation}
 use Rattle.s3_fifo.specs.declared.Creation.the-variants.{Made, Refused}
-use Rattle.s3_fifo.specs.Calls.{Said, Settled, Follows, Created, createdSays}
+use Rattle.s3_fifo.specs.Calls.{Created}
 
 module _ (settings : Settings) {r : Sized} (e : sizedOf r ≡ sizingOf most settings) where
   sized-as : {q : Sized} → r ≡ q → sizing (settings .capacity) (settings .«small_ratio») (settings .«ghost_ratio») ≡ sizedOf q

@@ -2,13 +2,13 @@
 -- all that stands behind it.
 -- Assumes nothing.
 use mathlib.Core.Path.{_≡_, refl, sym, ap, _∙_, subst}
-use mathlib.Core.List.{List, [], _∷_, _++_}
-use Prim.Native.Nat.{ℕ, _≤_, _<_}
+use mathlib.Core.List.{List, []}
+use Prim.Native.Nat.{ℕ}
 use native.Mathlib.Omega.{arith}
 use lib.ListN.{length, drop}
 use Rattle.nodes.specs.Nodes.{used}
 use Rattle.rules.specs.State.{State}
-use Rattle.rules.specs.Verdict.{Verdict, refused, done, storeBytes, create, Reads, short, damaged, reads, call}
+use Rattle.rules.specs.Verdict.{Verdict, refused, done, create, Reads, short, damaged, reads, call}
 use Rattle.sizing.specs.declared.Settings.{Settings}
 use Rattle.rules.proofs.RefusalsLaws.{turnedBy, turned-back}
 use Rattle.store.specs.Holds.{shapeFor, Holds}

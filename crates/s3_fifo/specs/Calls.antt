@@ -7,7 +7,8 @@ use lib.ListN.{length, drop}
 use Rattle.nodes.specs.Nodes.{used}
 use Rattle.rules.specs.State.{State}
 use Rattle.rules.specs.Refusals.{numberOf, detailOf}
-use Rattle.rules.specs.Verdict.{Verdict, refused, done, storeBytes, create, Reads, short, damaged, reads, call}
+use Rattle.rules.specs.Refusals.{storeBytes}
+use Rattle.rules.specs.Verdict.{Verdict, refused, done, create, Reads, short, damaged, reads, call}
 use Rattle.sizing.specs.declared.Settings.{Settings}
 use Rattle.store.specs.Holds.{shapeFor, Holds}
 use Rattle.s3_fifo.specs.declared.Creation.{Creation}

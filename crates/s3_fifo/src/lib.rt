@@ -5,7 +5,7 @@ ghost use Prim.Native.Nat.{_+_, _≤_};
 ghost use lib.ListN.{length};
 ghost use Rattle.rules.specs.Bytes.{encodeAll, parseFrom};
 ghost use Rattle.rules.specs.Sizing.{defaultsFor};
-ghost use Rattle.rules.specs.Verdict.{storeBytes};
+ghost use Rattle.rules.specs.Refusals.{storeBytes};
 ghost use Rattle.sizing.specs.Answers.{asksOf};
 ghost use Rattle.wire.specs.Wire.{Wrote};
 ghost use Rattle.wire.specs.CarriedOut.{HasRoom};
@@ -120,9 +120,9 @@ pub struct S3FifoCache;
 impl S3FifoCache {
     pub const MAX_FREQ: u8 = rules::MAX_FREQ;
 
-    pub const DEFAULT_SMALL_RATIO: f64 = sizing::DEFAULT_SMALL_RATIO;
+    pub const DEFAULT_SMALL_RATIO: f64 = 0.1;
 
-    pub const DEFAULT_GHOST_RATIO: f64 = sizing::DEFAULT_GHOST_RATIO;
+    pub const DEFAULT_GHOST_RATIO: f64 = 0.9;
 
     // The one fixed size of a store.
     pub const STORE_BYTES: usize = 57600;

@@ -12,10 +12,6 @@ ghost use Rattle.sizing.specs.Answers.{sizedOf, sizingOf, asksOf, askedO
 ghost use Rattle.sizing.specs.Cut.{Factors, cut};
 use rules::Turned;
 
-pub const DEFAULT_SMALL_RATIO: f64 = 0.1;
-
-pub const DEFAULT_GHOST_RATIO: f64 = 0.9;
-
 // The mark of a settings record, and its bytes, mark and all.
 const CF: [u8; 2] = *b"CF";
 
@@ -45,17 +41,6 @@ pub enum Sized {
 pub enum Read {
     Asked(Settings),
     Bad,
-}
-
-// The settings that a capacity alone stands for.
-pub fn defaults(capacity: u64) -> Settings
-    ensures { λ r. ⌜ asksOf r ≡ defaultsFor capacity ⌝ }
-{
-    Settings {
-        capacity,
-        small_ratio: DEFAULT_SMALL_RATIO,
-        ghost_ratio: DEFAULT_GHOST_RATIO,
-    }
 }
 
 // Whether x is no ratio: a NaN, an infinity, or with its sign bit set.

@@ -16,7 +16,7 @@ use Rattle.nodes.specs.Nodes.{cols, Room}
 use Rattle.nodes.specs.declared.Shape.{Shape}
 use Rattle.pool.specs.Carries.{Pooled}
 use Rattle.rules.specs.State.{Entry, Limits, State, most, maxFreq, residents, Fine, Sound}
-use Rattle.rules.specs.Verdict.{storeBytes}
+use Rattle.rules.specs.Refusals.{storeBytes}
 use Rattle.rules.proofs.PartsLaws.{length-total}
 use Rattle.store.specs.declared.Entry.{Entry as Entry·}
 use Rattle.store.specs.Holds.{entryAt, limitsIn, stateIn, shapeFor, Keeps, Held, Holds}

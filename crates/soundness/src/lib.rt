@@ -5,7 +5,7 @@ ghost use lib.ListN.{length};
 ghost use Rattle.cells.specs.Decides.{Decides, All};
 ghost use Rattle.nodes.specs.Nodes.{Room};
 ghost use Rattle.rules.specs.State.{Fine};
-ghost use Rattle.rules.specs.Verdict.{storeBytes};
+ghost use Rattle.rules.specs.Refusals.{storeBytes};
 ghost use Rattle.sizing.specs.Answers.{limitsOf};
 ghost use Rattle.store.specs.Holds.{stateIn, Keeps, Held};
 ghost use Rattle.soundness.specs.Checks.{Shaped, Few, Cool, Checks};

@@ -11,7 +11,7 @@ use Rattle.nodes.specs.declared.Shape.{Shape}
 use Rattle.nodes.proofs.NodesLaws.{length-cols, room-kept}
 use Rattle.pool.specs.Carries.{PoolSetUp}
 use Rattle.rules.specs.State.{Limits, Small, Main, emptyAt, Fine, Sound}
-use Rattle.rules.specs.Verdict.{storeBytes}
+use Rattle.rules.specs.Refusals.{storeBytes}
 use Rattle.rules.proofs.SoundLaws.{empty-sound}
 use Rattle.store.specs.Holds.{entryAt, keyAt, limitsIn, stateIn, shapeFor, Holds}
 use Rattle.store.specs.Created.{limited, Limited, SetUp}

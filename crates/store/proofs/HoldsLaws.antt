@@ -8,7 +8,7 @@ use lib.ListN.{length}
 use Rattle.nodes.specs.Nodes.{Head, cols, Room, GetsField}
 use Rattle.nodes.specs.declared.Shape.{Shape}
 use Rattle.rules.specs.State.{Limits, State, Fine}
-use Rattle.rules.specs.Verdict.{storeBytes}
+use Rattle.rules.specs.Refusals.{storeBytes}
 use Rattle.store.specs.Holds.{limitsIn, stateIn, shapeFor, Held, Holds}
 use Rattle.store.specs.Created.{Stated}
 use Rattle.store.proofs.ShownLaws.{limitsBy}

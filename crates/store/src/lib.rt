@@ -8,7 +8,7 @@ ghost use Rattle.cells.specs.Decides.{Decides};
 ghost use Rattle.nodes.specs.Nodes.{Room};
 ghost use Rattle.pool.specs.Carries.{Pooled};
 ghost use Rattle.rules.specs.State.{Queue, queueOf, Fine};
-ghost use Rattle.rules.specs.Verdict.{storeBytes};
+ghost use Rattle.rules.specs.Refusals.{storeBytes};
 ghost use Rattle.sizing.specs.Answers.{limitsOf};
 ghost use Rattle.store.specs.Holds.{listNo, ghostsNo, stateIn, shapeFor, Keeps, Held};
 ghost use Rattle.store.specs.Entries.{GetsEntry, GetsGhost, HoldsResident};

@@ -1,7 +1,7 @@
 -- The laws of a call's loop, over states alone: requests are carried out and answered one after the other, and what is still to come completes the
 -- whole. They know no store and no reader of records, so that any engine and any way of cutting the bytes can cite them.
 -- Assumes nothing.
-use mathlib.Core.Path.{_≡_, refl, sym, ap, ap₂, _∙_, subst}
+use mathlib.Core.Path.{_≡_, refl, sym, ap, _∙_, subst}
 use mathlib.Core.List.{List, [], _∷_, _++_}
 use Prim.Native.Nat.{ℕ, _+_, _-_, _≤_}
 use native.Mathlib.Omega.{arith}

@@ -113,9 +113,6 @@ pub record Partly (s₀ s : List ℕ) (out : ℕ) (rest whole : List ℕ) : Type
   pub untouched : drop out s ≡ drop out s₀
   pub told : take out s ++ rest ≡ whole
 
-pub partly-none : (s whole : List ℕ) → Partly s s 0 whole whole
-partly-none s whole = record { within = omega arith; same = refl; untouched = refl; told = refl }
-
 pub partly-more : {s₀ s : List ℕ} {out : ℕ} {rest whole : List ℕ} (bs : List ℕ) → out + length bs ≤ length s
     → Partly s₀ s out (bs ++ rest) whole → Partly s₀ (splice s out bs) (out + length bs) rest whole
 partly-more {s₀} {s} {out} {rest} {whole} bs h p =

@@ -14,7 +14,7 @@ use Rattle.rules.specs.declared.Kind.the-variants.{Get, Peek, Remove, Insert, E
 use Rattle.rules.specs.Records.{Request}
 use Rattle.rules.specs.Bytes.{row, over, made, roomOf, roomFor, Reading, ask, strange, short, end, readAt, End, unknownAt, cutAt, whole}
 use Rattle.rules.specs.Bytes.{Parsed, ends, with, onReading, parseFrom}
-use Rattle.rules.specs.Verdict.{mostRequestBytes}
+use Rattle.rules.specs.Refusals.{mostRequestBytes}
 use Rattle.rules.proofs.TableLaws.{row-bytes}
 use Rattle.rules.proofs.ParseLaws.{Lies, spot-lies, parse-step}
 use Rattle.wire.specs.declared.KnownRow.{KnownRow}

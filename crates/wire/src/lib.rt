@@ -8,7 +8,7 @@ ghost use mathlib.Core.List.{_++_};
 ghost use Prim.Native.Nat.{_+_, _≤_};
 ghost use lib.ListN.{length};
 ghost use Rattle.rules.specs.Bytes.{bytesOf, encode, row, readAt, parseFrom, parse};
-ghost use Rattle.rules.specs.Verdict.{mostRequestBytes};
+ghost use Rattle.rules.specs.Refusals.{mostRequestBytes};
 ghost use Rattle.wire.specs.Wire.{told, meaning, Marked, Meets, Spots, Asks, surveyed, Wrote};
 
 pub enum Request {
@@ -164,7 +164,7 @@ pub fn next(s: &[u8], at: usize) -> Record
 }
 
 // The walk over the records from an offset on: the reply room of those that are whole, and where and how it ends.
-pub fn survey_from(s: &[u8], start: usize) -> Survey
+fn survey_from(s: &[u8], start: usize) -> Survey
     requires { ⌜ (start ≤ length (now s)) × (length (now s) ≤ mostRequestBytes) ⌝ }
     ensures { λ r. ⌜ r ≡ surveyed (length (now (s .entry))) (parseFrom (now (s .entry)) start) ⌝ }
 {

@@ -1,6 +1,8 @@
 //! Prints the wrapper's constants, a name and a value to a line: tests/constants compares them with the proved code's.
 
-use mapcache::{DEFAULT_GHOST_RATIO, DEFAULT_SMALL_RATIO, MAX_FREQ, MOST, MOST_REQUEST_BYTES, VERSION, store_bytes};
+use mapcache::{
+    DEFAULT_GHOST_RATIO, DEFAULT_SMALL_RATIO, MAX_FREQ, MOST, MOST_REQUEST_BYTES, Settings, VERSION, store_bytes,
+};
 
 fn main() {
     println!("version {VERSION}");
@@ -10,4 +12,8 @@ fn main() {
     println!("store_bytes {}", store_bytes());
     println!("most {MOST}");
     println!("most_request_bytes {MOST_REQUEST_BYTES}");
+    let settings = Settings::with_capacity(100);
+    println!("settings_capacity {}", settings.capacity);
+    println!("settings_small_ratio {}", settings.small_ratio.to_bits());
+    println!("settings_ghost_ratio {}", settings.ghost_ratio.to_bits());
 }

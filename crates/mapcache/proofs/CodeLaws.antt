@@ -19,7 +19,7 @@ use Rattle.s3_fifo.specs.declared.Creation.the-variants.{Refused as NotMade}
 use Rattle.s3_fifo.specs.declared.Ran.{Ran}
 use Rattle.s3_fifo.specs.declared.Ran.the-variants.{Done, Refused}
 use Rattle.s3_fifo.specs.Calls.{Said, turned, createdSays, ranSays, Follows, Called}
-use Rattle.mapcache.specs.Codes.{codeOf, detailIn, FitsIn, Fits}
+use Rattle.mapcache.specs.Codes.{codeOf, FitsIn, Fits}
 
 zero-minus : (n : ℕ) → n < 2 ^ 63 → toZ w64 0 -ℤ toZ w64 n ≡ negℤ (pos n)
 zero-minus n h = ap (λ (z : ℤ). toZ w64 0 -ℤ z) (toZ-pos w64 h) ∙ +ℤ-idl (negℤ (pos n))

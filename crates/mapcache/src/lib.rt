@@ -81,7 +81,8 @@ pub extern "C" fn mapcache_run(
     replies: &mut [u8],
     detail: &mut u64,
 ) -> i64
-    ensures { λ r. ⌜ CalledAs (now (store .entry)) (now (requests .entry)) (now (replies .entry)) r (now (detail .exit)) (now (store .exit)) (now (replies .exit)) ⌝ }
+    ensures { λ r. ⌜ CalledAs (now (store .entry)) (now (requests .entry)) (now (replies .entry)) r (now (detail .exit))
+        (now (store .exit)) (now (replies .exit)) ⌝ }
 {
     let ran = S3FifoCache::run(store, requests, replies);
     *detail = ran_detail(ran);

@@ -38,7 +38,10 @@ use Rattle.replay.specs.Output.{noRecord, noBytes, printed, onCreated, o
 number-wrote : {p p₁ p₂ a : List ℕ} {m : ℕ} (w n : ℕ) → Wrote p 0 a p₁ m → p₂ ≡ putLe w p₁ m n → m + w ≤ length p → Wrote p 0 (a ++ bytesOf w n) p₂ (m + w)
 number-wrote {p} {p₁} {p₂} {a} {m} w n x e h =
     let l = wrote-length x (omega (arith, x .end)) in
-    let y : Wrote p₁ m (bytesOf w n) p₂ (m + w) = record { bytes = e ∙ put-splice w p₁ m n (omega arith); end = ap (λ (k : ℕ). m + k) (sym (bytes-length w n)) } in
+    let y : Wrote p₁ m (bytesOf w n) p₂ (m + w) = record {
+      bytes = e ∙ put-splice w p₁ m n (omega arith);
+      end = ap (λ (k : ℕ). m + k) (sym (bytes-length w n));
+    } in
     wrote-wrote x y (omega (arith, x .end, bytes-length w n))
 
 nothing-wrote : (p : List ℕ) → Wrote p 0 [] p 0
@@ -110,8 +113,10 @@ module _ {settings : Settings} {s s′ : List ℕ} {created : Creation} (long : 
       → Wrote p 0 (printed (onAsked (asksOf settings) q (length p))) p″ r
   run-made {s″} {q} {p} {p′} {p″} {ran} {r} e d f =
       let u = gave-done creation 0 s s′ [] [] (left-as Made e) in
-      let known : d .store ≡ reads (u .state) = reads-once s′ (d .store) (reads (u .state)) (d .store-is) (omega (arith, long, u .settled .same-length), u .settled .holds) in
-      let l : Follows (call (reads (u .state)) q (length p)) (ranSays ran) s′ s″ p p′ = subst (λ (x : Reads). Follows (call x q (length p)) (ranSays ran) s′ s″ p p′) known (d .leaves) in
+      let known : d .store ≡ reads (u .state) =
+      reads-once s′ (d .store) (reads (u .state)) (d .store-is) (omega (arith, long, u .settled .same-length), u .settled .holds) in
+      let l : Follows (call (reads (u .state)) q (length p)) (ranSays ran) s′ s″ p p′ =
+      subst (λ (x : Reads). Follows (call x q (length p)) (ranSays ran) s′ s″ p p′) known (d .leaves) in
       output-is (u .is) q p (finish-shown (call (reads (u .state)) q (length p)) (ranSays ran) s′ s″ p p′ p″ r l f)
 
 -- ---- the settings in front

@@ -86,7 +86,8 @@ fn finish(ran: Ran, replies: &mut [u8]) -> usize
 // Creates a cache in the store, and runs all requests on it as one call.
 fn run_on(store: &mut [u8], settings: Settings, requests: &[u8], replies: &mut [u8]) -> usize
     requires { ⌜ (storeBytes ≡ length (now store)) × (noBytes ≤ length (now replies)) ⌝ }
-    ensures { λ r. ⌜ Wrote (now (replies .entry)) 0 (printed (onAsked (asksOf settings) (now (requests .entry)) (length (now (replies .entry))))) (now (replies .exit)) r ⌝ }
+    ensures { λ r. ⌜ Wrote (now (replies .entry)) 0 (printed (onAsked (asksOf settings) (now (requests .entry)) (length (now (replies .entry)))))
+        (now (replies .exit)) r ⌝ }
 {
     let created = S3FifoCache::create(settings, store);
     match created {

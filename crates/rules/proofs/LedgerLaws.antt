@@ -15,7 +15,8 @@ use Rattle.rules.specs.Records.{Request, GT, PK, RM, IN, EV, CL, Reply, 
 use Rattle.rules.specs.Ghosts.{Removed, removeGhost}
 use Rattle.rules.specs.Eviction.{tell, Evicted, evictIfFull, Walk}
 use Rattle.rules.specs.Requests.{run, apply, onGet, onPeek, onRemove, onInsert, onNew, onFirst, onEvictOne, admits, arrive, firstQueue}
-use Rattle.rules.specs.Ledger.{same, held, handedIn, handedOut, clears, Answered, history, Ledger, blank, opens, booked, ledger, Balanced, served, histories}
+use Rattle.rules.specs.Ledger.{same, held, handedIn, handedOut, clears, Answered, history}
+use Rattle.rules.specs.Ledger.{Ledger, blank, opens, booked, ledger, Balanced, served, histories}
 use Rattle.rules.proofs.PartsLaws.{total-append, pop-law}
 use Rattle.rules.proofs.StateLaws.{push-total, pop-total, put-total, back-total, Places, place-law}
 use Rattle.rules.proofs.SoundLaws.{Roomy, roomy-law, walk-total, Ends, first-ends, apply-sound, run-sound, empty-sound}
@@ -246,7 +247,8 @@ demand-3-from σ calls e z =
     }
 
 -- from a creation on: the ledger opens blank
-pub demand-3 : (L : Limits) (calls : List (List Request)) → Fine L → EachSized calls → Demand3 (emptyAt L) (served (emptyAt L) calls) (histories (emptyAt L) calls)
+pub demand-3 : (L : Limits) (calls : List (List Request)) → Fine L → EachSized calls
+    → Demand3 (emptyAt L) (served (emptyAt L) calls) (histories (emptyAt L) calls)
 demand-3 L calls f z = demand-3-from (emptyAt L) calls (empty-sound L f) z
 
 -- the same of one run of requests

@@ -112,7 +112,8 @@ module _ {z : Shape} {s : List ℕ} (b : storeBytes ≤ length s) (h : Held z s)
           let w = survey-whole q g e all in
           let σ′ : State = run (stateIn z s) (parse q .requests) .state in
           let bs : List ℕ = encodeAll (run (stateIn z s) (parse q .requests) .replies) in
-          let y : z ≡ shapeFor (σ′ .limits) = x .held .keeps .shaped ∙ ap shapeFor (sym (limits-shown z s′) ∙ ap (λ (τ : State). τ .limits) (x .carried .state)) in
+          let y : z ≡ shapeFor (σ′ .limits) =
+          x .held .keeps .shaped ∙ ap shapeFor (sym (limits-shown z s′) ∙ ap (λ (τ : State). τ .limits) (x .carried .state)) in
           let u : drop (used z) s′ ≡ drop (used z) s = sym (cols-rest z s′) ∙ x .rest ∙ cols-rest z s in
           record {
             store = reads (stateIn z s);

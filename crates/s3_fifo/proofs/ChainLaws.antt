@@ -61,7 +61,8 @@ pub record Begun (L : Limits) (s′ : List ℕ) : Type 0 where
   pub holds : Holds s′ (emptyAt L)
   pub long : storeBytes ≤ length s′
 
-begin : (a : Sized) (s s′ : List ℕ) {M : Limits} → ((L : Limits) → a ≡ limits L → Fine L × (L ≡ M)) → Follows (onSized (length s) a) (gave 0) s s′ [] [] → Begun M s′
+begin : (a : Sized) (s s′ : List ℕ) {M : Limits} → ((L : Limits) → a ≡ limits L → Fine L × (L ≡ M))
+    → Follows (onSized (length s) a) (gave 0) s s′ [] [] → Begun M s′
 begin (misfit n d) s s′ f h = absurd (gave-not (h .0))
 begin (limits L) s s′ {M} f h = subst (λ (K : Limits). Begun K s′) (f L refl .1) (pick (ltb (length s) storeBytes) refl h)
   where
@@ -84,7 +85,8 @@ pub record Served (σ : State) (q s′ p′ : List ℕ) (n : ℕ) : Type 0 where
   pub holds : Holds s′ (run σ (parse q .requests) .state)
   pub told : take n p′ ≡ encodeAll (run σ (parse q .requests) .replies)
 
-pub served : {s q p s′ p′ : List ℕ} {n : ℕ} {σ : State} → Holds s σ → storeBytes ≤ length s → Called s q p (Done n) s′ p′ → Served σ q s′ p′ n × (storeBytes ≤ length s′)
+pub served : {s q p s′ p′ : List ℕ} {n : ℕ} {σ : State} → Holds s σ → storeBytes ≤ length s → Called s q p (Done n) s′ p′
+    → Served σ q s′ p′ n × (storeBytes ≤ length s′)
 unfolding call
 served {s} {q} {p} {s′} {p′} {n} {σ} h b c =
     let e : c .store ≡ reads σ = reads-once s (c .store) (reads σ) (c .store-is) (b, h) in
@@ -107,7 +109,8 @@ unfolding call
 intact s q p s′ p′ n short h l d = absurd (gave-not (l .0))
 intact s q p s′ p′ n damaged h l d = absurd (gave-not (l .0))
 intact s q p s′ p′ n (reads σ) h l d =
-    d .1 (run σ (parse q .requests) .state) (served {s = s} {q = q} {p = p} {s′ = s′} {p′ = p′} {n = n} {σ = σ} (h .1) (h .0) (record { store = reads σ; store-is = h; leaves = l }) .0 .holds)
+    d .1 (run σ (parse q .requests) .state)
+    (served {s = s} {q = q} {p = p} {s′ = s′} {p′ = p′} {n = n} {σ = σ} (h .1) (h .0) (record { store = reads σ; store-is = h; leaves = l }) .0 .holds)
 
 pub called-intact : {s q p s′ p′ : List ℕ} {n : ℕ} → Called s q p (Done n) s′ p′ → ReadsAs s′ damaged → ⊥
 called-intact {s} {q} {p} {s′} {p′} {n} c d = intact s q p s′ p′ n (c .store) (c .store-is) (c .leaves) d
@@ -129,7 +132,8 @@ grow : {s q p s′ p′ : List ℕ} {n : ℕ} {σ₀ : State} {rs : List Request
     → Grown s′ σ₀ (rs ++ parse q .requests) (bs ++ take n p′)
 grow {s} {q} {p} {s′} {p′} {n} {σ₀} {rs} {bs} g b c =
     let v = served (g .holds) (g .long) c in
-    let e : run σ₀ (rs ++ parse q .requests) ≡ tellFirst (run σ₀ rs .replies) (run (run σ₀ rs .state) (parse q .requests)) = run-append σ₀ rs (parse q .requests) in
+    let e : run σ₀ (rs ++ parse q .requests) ≡ tellFirst (run σ₀ rs .replies) (run (run σ₀ rs .state) (parse q .requests)) =
+    run-append σ₀ rs (parse q .requests) in
     record {
       sound = g .sound;
       sized = sized-append rs (parse q .requests) (g .sized) (parse-sized q b);

@@ -72,7 +72,10 @@ settled-agrees {s} {s₁} {s₂} {τ} a b =
     record {
       holds = λ σ h. subst (Holds s₂) (holds-once (a .holds) h) (b .holds);
       back = λ σ h. subst (Holds s₁) (holds-once (b .holds) h) (a .holds);
-      surplus = λ σ h. subst (λ (ρ : State). drop (used (shapeFor (ρ .limits))) s₁ ≡ drop (used (shapeFor (ρ .limits))) s₂) (holds-once (a .holds) h) (a .surplus ∙ sym (b .surplus));
+      surplus = λ σ h. subst
+          (λ (ρ : State). drop (used (shapeFor (ρ .limits))) s₁ ≡ drop (used (shapeFor (ρ .limits))) s₂)
+          (holds-once (a .holds) h)
+          (a .surplus ∙ sym (b .surplus));
       same-length = a .same-length ∙ sym (b .same-length);
     }
 
@@ -86,12 +89,14 @@ follows-once (done σ bs) a b s s₁ s₂ p p₁ p₂ h g = (h .0 ∙ sym (g .0)
 
 pub created-once : {settings : Settings} {s s₁ s₂ : List ℕ} (r t : Creation) → Created settings s r s₁ → Created settings s t s₂ → (r ≡ t) × Agrees s₁ s₂
 created-once {settings} {s} {s₁} {s₂} r t c d =
-    let l = follows-once (create (settings .capacity) (settings .«small_ratio») (settings .«ghost_ratio») (length s)) (createdSays r) (createdSays t) s s₁ s₂ [] [] [] (c .leaves) (d .leaves) in
+    let v = create (settings .capacity) (settings .«small_ratio») (settings .«ghost_ratio») (length s) in
+    let l = follows-once v (createdSays r) (createdSays t) s s₁ s₂ [] [] [] (c .leaves) (d .leaves) in
     (creation-once r t (l .0), l .2)
 
 pub called-once : {s q p s₁ s₂ p₁ p₂ : List ℕ} (r t : Ran) → Called s q p r s₁ p₁ → Called s q p t s₂ p₂ → (r ≡ t) × (p₁ ≡ p₂) × Agrees s₁ s₂
 called-once {s} {q} {p} {s₁} {s₂} {p₁} {p₂} r t c d =
     let e : c .store ≡ d .store = reads-once s (c .store) (d .store) (c .store-is) (d .store-is) in
-    let f : Follows (call (d .store) q (length p)) (ranSays r) s s₁ p p₁ = subst (λ (x : Reads). Follows (call x q (length p)) (ranSays r) s s₁ p p₁) e (c .leaves) in
+    let f : Follows (call (d .store) q (length p)) (ranSays r) s s₁ p p₁ =
+    subst (λ (x : Reads). Follows (call x q (length p)) (ranSays r) s s₁ p p₁) e (c .leaves) in
     let l = follows-once (call (d .store) q (length p)) (ranSays r) (ranSays t) s s₁ s₂ p p₁ p₂ f (d .leaves) in
     (ran-once r t (l .0), l .1, l .2)

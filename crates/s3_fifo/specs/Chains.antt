@@ -1,4 +1,5 @@
--- Calls one after the other on one store, each lent the store as the last one left it: the state that the first one began with, and what was asked and answered since.
+-- Calls one after the other on one store, each lent the store as the last one left it: the state that they began with, and
+-- what was asked and answered since.
 -- Assumes nothing.
 use mathlib.Core.Path.{_≡_}
 use mathlib.Core.List.{List, [], _++_}

@@ -71,7 +71,8 @@ fn run_from(
 ) -> usize
     requires { ⌜ Held z (now store) ⌝ }
     requires { ⌜ HasRoom (parseFrom (now requests) at .requests) (now replies) out ⌝ }
-    ensures { λ r. ⌜ Runs z (now (store .entry)) (now (store .exit)) (parseFrom (now (requests .entry)) at .requests) (now (replies .entry)) (now (replies .exit)) out r ⌝ }
+    ensures { λ r. ⌜ Runs z (now (store .entry)) (now (store .exit)) (parseFrom (now (requests .entry)) at .requests)
+        (now (replies .entry)) (now (replies .exit)) out r ⌝ }
 {
     let mut from = at;
     let mut end = out;

@@ -7,7 +7,7 @@ ghost use lib.ListN.{length};
 ghost use lib.Dec.{T};
 ghost use lib.Ieee.{isNan, binary64, ofBits};
 ghost use Rattle.rules.specs.State.{most};
-ghost use Rattle.rules.specs.Sizing.{badRatio, product, defaultsFor, settingsAt, settingsOf};
+ghost use Rattle.rules.specs.Sizing.{badRatio, product, settingsAt, settingsOf};
 ghost use Rattle.sizing.specs.Answers.{sizedOf, sizingOf, asksOf, askedOf};
 ghost use Rattle.sizing.specs.Cut.{Factors, cut};
 use rules::Turned;

@@ -66,7 +66,8 @@ module _ {σ₀ σ : State} {rs₀ : List Request} {r : Request} {rs : List Requ
   progress-next {p₁} {out₁} {τ} e b =
       let f = progress-fits in
       let whole : List ℕ = take out₀ p₀ ++ encodeAll (run σ₀ rs₀ .replies) in
-      let g : Partly p₀ p out (encodeAll w ++ encodeAll (run (apply σ r .state) rs .replies)) whole = subst (λ (l : List ℕ). Partly p₀ p out l whole) to-come (m .part) in
+      let g : Partly p₀ p out (encodeAll w ++ encodeAll (run (apply σ r .state) rs .replies)) whole =
+      subst (λ (l : List ℕ). Partly p₀ p out l whole) to-come (m .part) in
       rw e (record {
         sound = progress-sound;
         narrow = m .narrow .1;

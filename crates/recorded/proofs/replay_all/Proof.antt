@@ -8,7 +8,8 @@ use Rattle.recorded.proofs.replay_all.Tie as tie
 
 abbrev Inv-loop : tie.InvT-loop
 Inv-loop fd steps input₀ output₀ store₀ before₀ out₀ t₀ left₀ input output store before out t left =
-    (length input ≡ length input₀) × (length output ≡ length output₀) × (length store ≡ length store₀) × (length before ≡ length before₀) × (length out ≡ length out₀)
+    (length input ≡ length input₀) × (length output ≡ length output₀) × (length store ≡ length store₀)
+    × (length before ≡ length before₀) × (length out ≡ length out₀)
 
 abbrev μ-loop : tie.MeasureT-loop
 μ-loop fd steps input₀ output₀ store₀ before₀ out₀ t₀ left₀ input output store before out t left = left

@@ -5,7 +5,6 @@ use mathlib.Core.List.{List, [], _∷_}
 use Prim.Native.Nat.{ℕ, _+_, _*_, _≤_, _<_}
 use native.Mathlib.Omega.{arith}
 use native.Mathlib.Nat.{zero-add}
-use lib.Dec.{leb}
 use lib.ListN.{length}
 use borrow.Author.Tests.{le-leb, lt-leb}
 use mir.Syntax.{w64}
@@ -13,19 +12,17 @@ use mir.Val.{Fits}
 use Rattle.nodes.specs.declared.Shape.{Shape}
 use Rattle.rules.specs.declared.GuestBlock.{GuestBlock}
 use Rattle.rules.specs.declared.PhysicalBlock.{PhysicalBlock}
-use Rattle.rules.specs.State.{State, Queue, maxFreq, most, fresh, residents, one, warmth, Sound}
-use Rattle.rules.specs.Eviction.{moved, left, step, Evicted, evict, evictIfFull, untouched, tell}
+use Rattle.rules.specs.State.{maxFreq, most, fresh, residents, one, warmth}
+use Rattle.rules.specs.Eviction.{moved, left, step, evict, evictIfFull, tell}
 use Rattle.rules.proofs.PartsLaws.{length-total}
 use Rattle.rules.proofs.EngineLaws.{after, after-moved, evict-left}
 use Rattle.rules.proofs.EvictionLaws.{Moves, step-law, moves-total, moves-colder}
 use Rattle.rules.proofs.SoundLaws.{warmth-most}
 use Rattle.store.specs.declared.QueueKind.{QueueKind}
-use Rattle.store.specs.declared.QueueKind.the-variants.{Small as Small·, Main as Main·}
-use Rattle.store.specs.Holds.{stateIn, restIn, Held, Becomes}
+use Rattle.store.specs.Holds.{stateIn, restIn, Held}
 use Rattle.store.specs.Seats.{queueKind}
 use Rattle.evict.specs.declared.Turn.{Turn as Turn·}
 use Rattle.evict.specs.declared.Turn.the-variants.{Moved, Left}
-use Rattle.evict.specs.declared.Pushed.{Pushed}
 use Rattle.evict.specs.declared.Pushed.the-variants.{Nothing}
 use Rattle.evict.specs.declared.Evicted.{Evicted as Evicted·}
 use Rattle.evict.specs.Evicts.{pushedOf, Steps, Makes}
@@ -84,7 +81,8 @@ module _ {z : Shape} {s₀ s : List ℕ} {n : ℕ} (g : Going z s₀ s n) where
       unfolding heat
       going-less = cooler
 
-    pub going-end : {q : QueueKind} {k : GuestBlock} {v : PhysicalBlock} → r ≡ Left q k v → (w : Evicted·) → pushedOf (w .pushed) ≡ tell (queueKind q) (fresh (k .0) (v .0)) ∷ [] → w .pops ≡ n + 1
+    pub going-end : {q : QueueKind} {k : GuestBlock} {v : PhysicalBlock} → r ≡ Left q k v → (w : Evicted·)
+        → pushedOf (w .pushed) ≡ tell (queueKind q) (fresh (k .0) (v .0)) ∷ [] → w .pops ≡ n + 1
         → Makes z s₀ s₁ (evict (stateIn z s₀)) w
     going-end {q} {k} {v} e w p c =
         let turn : step (stateIn z s) ≡ left (queueKind q) (fresh (k .0) (v .0)) (stateIn z s₁) = t .turn ∙ rw e in
@@ -100,9 +98,6 @@ module _ {z : Shape} {s : List ℕ} (h : Held z s) {n m : ℕ} (e : n ≡ reside
   makes-nothing l w p c =
       rw (lt-leb (stateIn z s .limits .capacity) (residents (stateIn z s)) (omega arith))
       (record { becomes = record { keeps = h .keeps; state = refl; rest = refl }; told = ap pushedOf p; pops = c })
-
-  pub full-some : m ≤ n → 1 ≤ residents (stateIn z s)
-  full-some l = omega (arith, h .sound .fine .some-room)
 
   pub makes-full : m ≤ n → {s′ : List ℕ} {w : Evicted·} → Makes z s s′ (evict (stateIn z s)) w → Makes z s s′ (evictIfFull (stateIn z s)) w
   unfolding evictIfFull

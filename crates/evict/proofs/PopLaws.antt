@@ -9,13 +9,13 @@ use borrow.Author.Tests.{lt-ltb}
 use Rattle.nodes.specs.declared.Shape.{Shape}
 use Rattle.rules.specs.declared.GuestBlock.{GuestBlock}
 use Rattle.rules.specs.declared.PhysicalBlock.{PhysicalBlock}
-use Rattle.rules.specs.State.{Entry, Queue, Small, Main, fresh, withFreq, cool, setQueue, pushTo}
+use Rattle.rules.specs.State.{Entry, Queue, Small, Main, withFreq, cool, setQueue, pushTo}
 use Rattle.rules.specs.Eviction.{wanted}
 use Rattle.store.specs.declared.QueueKind.{QueueKind}
 use Rattle.store.specs.declared.QueueKind.the-variants.{Small as Small·, Main as Main·}
 use Rattle.store.specs.declared.Entry.{Entry as Entry·}
 use Rattle.store.specs.Holds.{stateIn, Keeps, Held}
-use Rattle.store.specs.Entries.{entryOf, GetsEntry}
+use Rattle.store.specs.Entries.{GetsEntry}
 use Rattle.store.specs.Seats.{queueKind, Seated, Tail, Reattached}
 use Rattle.store.proofs.KeepsLaws.{seat-entry, seat-queue, seat-node}
 use Rattle.store.proofs.LookLaws.{tail-seated}
@@ -77,7 +77,8 @@ module _ {z : Shape} {s : List ℕ} {q : Queue} {x : ℕ} (t : Tail z s q x) {e 
         stays = λ y k v i. stays-at y k v i;
       }
     where
-      stays-at : (y : ℕ) (k : GuestBlock) (v : PhysicalBlock) → Cold x (e .key) (e .value) ≡ Cold y k v → StaysTail z s s q (t .before) (t .entry) y (k .0) (v .0)
+      stays-at : (y : ℕ) (k : GuestBlock) (v : PhysicalBlock) → Cold x (e .key) (e .value) ≡ Cold y k v
+          → StaysTail z s s q (t .before) (t .entry) y (k .0) (v .0)
       stays-at y k v i =
           let node : x ≡ y = cc in
           let key : e .key ≡ k = cc in

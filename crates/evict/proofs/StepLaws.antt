@@ -1,26 +1,24 @@
 -- The laws of one step: what was picked, popped and moved is the rules' step.
 -- Assumes nothing.
 use mathlib.Core.Path.{_≡_, refl, sym, ap, ap₂, _∙_}
-use mathlib.Core.Bool.{Bool, true, false, cond}
-use mathlib.Core.List.{List, [], _∷_, _++_, append-nil}
-use Prim.Native.Nat.{ℕ, zero, suc, pred, _+_, _-_, _≤_, _<_}
+use mathlib.Core.List.{List, [], _∷_, append-nil}
+use Prim.Native.Nat.{ℕ, _-_, _≤_, _<_}
 use native.Mathlib.Omega.{arith}
-use lib.Dec.{ltb}
 use lib.ListN.{length}
 use borrow.Author.Tests.{lt-ltb, le-ltb}
 use Rattle.nodes.specs.declared.Shape.{Shape}
 use Rattle.rules.specs.declared.GuestBlock.{GuestBlock}
 use Rattle.rules.specs.declared.PhysicalBlock.{PhysicalBlock}
-use Rattle.rules.specs.State.{Entry, State, Queue, Small, Main, fresh, withFreq, cool, queueOf, setQueue, pushTo, residents, Sound}
-use Rattle.rules.specs.Eviction.{Turn, moved, left, above, victim, stays, back, ghosted, step}
+use Rattle.rules.specs.State.{Entry, State, Queue, Small, Main, queueOf, setQueue, residents}
+use Rattle.rules.specs.Eviction.{moved, left, stays, back, ghosted, step}
 use Rattle.rules.proofs.PartsLaws.{null-none, null-some}
 use Rattle.rules.proofs.EngineLaws.{step-moves, step-leaves}
 use Rattle.rules.proofs.EvictionLaws.{idle-law}
 use Rattle.rules.proofs.SoundLaws.{moved-sound, left-sound}
 use Rattle.store.specs.declared.QueueKind.{QueueKind}
 use Rattle.store.specs.declared.QueueKind.the-variants.{Small as Small·, Main as Main·}
-use Rattle.store.specs.Holds.{stateIn, Keeps, Held, Becomes}
-use Rattle.store.specs.Seats.{queueKind, Seat, Seated, Tail, EntryRemoved}
+use Rattle.store.specs.Holds.{stateIn, Held}
+use Rattle.store.specs.Seats.{queueKind, Seated, Tail, EntryRemoved}
 use Rattle.store.proofs.LookLaws.{tail-seated}
 use Rattle.ghost_list.specs.Ghosts.{RecordedTail}
 use Rattle.evict.specs.declared.Popped.{Popped}
@@ -37,10 +35,13 @@ module _ {z : Shape} {s : List ℕ} {limit small : ℕ} (e : limit ≡ stateIn z
 
   module _ (h : small ≤ limit) {main : ℕ} (g : main ≡ length (stateIn z s .main)) where
     pub picks-alone : main ≡ 0 → Picks z s Small
-    picks-alone n = record { picked = rw (le-ltb (stateIn z s .limits .smallLimit) (length (stateIn z s .small)) (omega arith), null-none (stateIn z s .main) (sym g ∙ n)) }
+    picks-alone n =
+        record { picked = rw (le-ltb (stateIn z s .limits .smallLimit) (length (stateIn z s .small)) (omega arith), null-none (stateIn z s .main) (sym g ∙ n)) }
 
     pub picks-main : (main ≡ 0 → ⊥) → Picks z s Main
-    picks-main n = record { picked = rw (le-ltb (stateIn z s .limits .smallLimit) (length (stateIn z s .small)) (omega arith), null-some (stateIn z s .main) (λ q. n (g ∙ q))) }
+    picks-main n =
+        let some = null-some (stateIn z s .main) (λ q. n (g ∙ q)) in
+        record { picked = rw (le-ltb (stateIn z s .limits .smallLimit) (length (stateIn z s .small)) (omega arith), some) }
 
 some-length : (l : List Entry) → (l ≡ [] → ⊥) → 1 ≤ length l
 some-length [] h = absurd (h refl)
@@ -67,7 +68,8 @@ seated-main q e t = rw e at (tail-seated t)
 
 -- ---- the step
 
-module _ {z : Shape} {s : List ℕ} (h : Held z s) (q : QueueKind) (v : Picks z s (queueKind q)) {s₁ : List ℕ} {r : Popped} (p : PopsTail z s s₁ (queueKind q) r) where
+module _ {z : Shape} {s : List ℕ} (h : Held z s) (q : QueueKind) (v : Picks z s (queueKind q)) {s₁ : List ℕ} {r : Popped}
+    (p : PopsTail z s s₁ (queueKind q) r) where
   pub steps-moved : r ≡ Back → Steps z s s₁ (Moved q)
   steps-moved e =
       let σ : State = stateIn z s in

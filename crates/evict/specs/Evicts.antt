@@ -10,7 +10,6 @@ use Rattle.rules.specs.declared.PhysicalBlock.{PhysicalBlock}
 use Rattle.rules.specs.State.{Entry, State, Queue, Small, Main, fresh, queueOf, setQueue}
 use Rattle.rules.specs.Records.{Reply, ES, EM}
 use Rattle.rules.specs.Eviction.{Turn, moved, left, victim, wanted, back, ghosted, step, Evicted}
-use Rattle.store.specs.declared.QueueKind.{QueueKind}
 use Rattle.store.specs.Holds.{stateIn, restIn, Held, Becomes}
 use Rattle.store.specs.Seats.{queueKind, Seat}
 use Rattle.evict.specs.declared.Popped.{Popped}

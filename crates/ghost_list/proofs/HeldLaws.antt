@@ -6,12 +6,11 @@ use mathlib.Core.List.{List}
 use Prim.Native.Nat.{ℕ, zero, suc, _+_, _≤_, _<_}
 use native.Mathlib.Omega.{arith}
 use lib.Dec.{eqb}
-use lib.ListN.{length}
 use borrow.Author.Tests.{eq-eqb, eqb-true}
 use Rattle.nodes.specs.declared.Shape.{Shape}
 use Rattle.rules.specs.Parts.{bit, total, Split, missing, found, splitBy}
-use Rattle.rules.specs.State.{Entry, Limits, State, words, setGhosts, keyed, wide, residents, Sound}
-use Rattle.rules.specs.Ghosts.{without, evictLru, recordGhost, removeGhost}
+use Rattle.rules.specs.State.{Limits, State, words, setGhosts, keyed, wide, residents, Sound}
+use Rattle.rules.specs.Ghosts.{without, recordGhost, removeGhost}
 use Rattle.rules.proofs.PartsLaws.{length-total, nil, Splits, split-law}
 use Rattle.rules.proofs.GhostsLaws.{drop-total, record-total, record-length, lru-total, record-zero, record-there}
 use Rattle.rules.proofs.SoundLaws.{Lessened, kept-sound, narrow-wide}

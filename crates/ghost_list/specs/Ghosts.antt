@@ -8,8 +8,8 @@ use Prim.Native.Nat.{ℕ}
 use lib.Dec.{ltb}
 use lib.ListN.{length}
 use Rattle.nodes.specs.declared.Shape.{Shape}
-use Rattle.rules.specs.State.{Entry, State, Queue, Small, setQueue, setGhosts, residents}
-use Rattle.rules.specs.Ghosts.{Given, keeps, evictLru, recordGhost, Removed, removeGhost, clearGhosts}
+use Rattle.rules.specs.State.{Entry, State, Small, setQueue, setGhosts, residents}
+use Rattle.rules.specs.Ghosts.{Given, keeps, evictLru, recordGhost, removeGhost, clearGhosts}
 use Rattle.rules.specs.Eviction.{ghosted}
 use Rattle.store.specs.Holds.{stateIn, Held, Becomes}
 use Rattle.store.specs.Seats.{Seat}
@@ -34,13 +34,19 @@ pub record Recorded (z : Shape) (s s′ : List ℕ) (k : ℕ) (r : Given·) : Ty
 pub record Lost (z : Shape) (s s′ : List ℕ) (r : Given·) : Type 0 where
   pub gave : Gave z s s′ (evictLru (stateIn z s .ghosts)) r
 
--- the oldest is dropped where there is no room for one more
-pub record Made (z : Shape) (s s′ : List ℕ) (r : Given·) : Type 0 where
-  pub gave : Gave z s s′ (cond (ltb (length (stateIn z s .ghosts)) (stateIn z s .limits .ghostLimit)) (keeps (stateIn z s .ghosts)) (evictLru (stateIn z s .ghosts))) r
+-- the ghosts of a state with room for one more: where there is none the oldest is dropped
+abbrev pub roomed : State → Given
+roomed σ = cond (ltb (length (σ .ghosts)) (σ .limits .ghostLimit)) (keeps (σ .ghosts)) (evictLru (σ .ghosts))
 
--- and where there is one too many
+pub record RoomMade (z : Shape) (s s′ : List ℕ) (r : Given·) : Type 0 where
+  pub gave : Gave z s s′ (roomed (stateIn z s)) r
+
+-- the ghosts of a state, without the oldest where there is one too many
+abbrev pub trimmed : State → List ℕ
+trimmed σ = cond (ltb (σ .limits .ghostLimit) (length (σ .ghosts))) (evictLru (σ .ghosts) .ghosts) (σ .ghosts)
+
 pub record Trimmed (z : Shape) (s s′ : List ℕ) : Type 0 where
-  pub becomes : Becomes z s s′ (setGhosts (cond (ltb (stateIn z s .limits .ghostLimit) (length (stateIn z s .ghosts))) (evictLru (stateIn z s .ghosts) .ghosts) (stateIn z s .ghosts)) (stateIn z s))
+  pub becomes : Becomes z s s′ (setGhosts (trimmed (stateIn z s)) (stateIn z s))
 
 -- `remove`
 pub record Took (z : Shape) (s s′ : List ℕ) (k : ℕ) (r : Bool) : Type 0 where

@@ -6,7 +6,7 @@ ghost use Rattle.rules.specs.State.{Queue, keyed};
 ghost use Rattle.store.specs.Holds.{stateIn, Keeps, Held};
 ghost use Rattle.store.specs.Seats.{Tail};
 ghost use Rattle.store.specs.Looks.{Lacks};
-ghost use Rattle.ghost_list.specs.Ghosts.{Recorded, Took, Lost, Made, Trimmed, Emptied, RecordedTail};
+ghost use Rattle.ghost_list.specs.Ghosts.{Recorded, Took, Lost, RoomMade, Trimmed, Emptied, RecordedTail};
 use rules::GuestBlock;
 use store::Lookup;
 use store::QueueKind;
@@ -51,7 +51,7 @@ pub fn remove(s: &mut [u8], z: Shape, k: GuestBlock) -> bool
 // Drops the oldest ghost where the list is full, and gives it back.
 fn make_room(s: &mut [u8], z: Shape) -> Given
     requires { ⌜ Keeps z (now s) ⌝ }
-    ensures { λ r. ⌜ Made z (now (s .entry)) (now (s .exit)) r ⌝ }
+    ensures { λ r. ⌜ RoomMade z (now (s .entry)) (now (s .exit)) r ⌝ }
 {
     if store::ghost_len(s, z) < store::ghost_limit_of(s, z) {
         return Given::Nothing;

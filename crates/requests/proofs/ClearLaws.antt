@@ -50,15 +50,23 @@ module _ {z : Shape} {s₀ s : List ℕ} {q : Queue} (c : Draining z s₀ s q) w
     pub draining-less : left z q s₁ < left z q s
     unfolding left
     draining-less =
-        omega (arith, ap (λ (σ : State). length (queueOf q σ)) (fell .state), ap length (own-queue q (t .before) (stateIn z s)), ap length (seat-queue z s (t .seat)), length-append (t .before) (t .entry ∷ []))
+        omega (
+          arith,
+          ap (λ (σ : State). length (queueOf q σ)) (fell .state),
+          ap length (own-queue q (t .before) (stateIn z s)),
+          ap length (seat-queue z s (t .seat)),
+          length-append (t .before) (t .entry ∷ []),
+        )
 
   pub draining-end : {n : ℕ} → n ≡ length (queueOf q (stateIn z s)) → n ≤ 0 → Drained z s₀ s q
   draining-end e h =
       let v = nil (queueOf q (stateIn z s)) (omega arith) in
-      record { becomes = record { keeps = c .keeps; state = sym (set-own q (stateIn z s)) ∙ ap (λ (l : List Entry). setQueue q l (stateIn z s)) v ∙ c .state; rest = c .rest } }
+      let e = sym (set-own q (stateIn z s)) ∙ ap (λ (l : List Entry). setQueue q l (stateIn z s)) v ∙ c .state in
+      record { becomes = record { keeps = c .keeps; state = e; rest = c .rest } }
 
 -- ghosts and both queues
-pub clears : {z : Shape} {s s₁ s₂ s₃ : List ℕ} → Emptied z s s₁ → Drained z s₁ s₂ Small → Drained z s₂ s₃ Main → {a : Spoken} → a ≡ alone Cleared → Answers z s s₃ CL a
+pub clears : {z : Shape} {s s₁ s₂ s₃ : List ℕ} → Emptied z s s₁ → Drained z s₁ s₂ Small → Drained z s₂ s₃ Main → {a : Spoken} → a ≡ alone Cleared
+    → Answers z s s₃ CL a
 unfolding apply
 clears {z} {s} g d m w =
     answers (says (emptyAt (stateIn z s .limits)) OK) refl

@@ -1,9 +1,9 @@
 -- evict_one: what was popped, sent back and handed out after the eviction rule is what the rules say.
 -- Assumes nothing.
 use mathlib.Core.Path.{_≡_, refl, sym, ap, ap₂, _∙_}
-use mathlib.Core.Bool.{Bool, true, false, cond}
+use mathlib.Core.Bool.{cond}
 use mathlib.Core.List.{List, [], _∷_, _++_, append-nil}
-use Prim.Native.Nat.{ℕ, _+_, _≤_, _<_}
+use Prim.Native.Nat.{ℕ, _+_, _≤_}
 use native.Mathlib.Omega.{arith}
 use lib.ListN.{length}
 use Rattle.nodes.specs.declared.Shape.{Shape}
@@ -85,13 +85,15 @@ module _ {z : Shape} {s s₁ : List ℕ} {q : Queue} {r : Popped} (p : PopsTail 
     pub first-back : Starts z s q → {s₂ : List ℕ} {l : List Reply} → Comes z s₁ s₂ (secondOf (stateIn z s₁)) l → Comes z s s₂ (firstOf (stateIn z s)) l
     first-back f c = comes-as (first-is (f .first)) (rw (p .went e .warm) (comes-then secondOf (p .went e .becomes) c))
 
-pub first-none : {z : Shape} {s : List ℕ} {q : Queue} → Held z s → Starts z s q → {n : ℕ} → n ≡ length (queueOf q (stateIn z s)) → n ≡ 0 → Comes z s s (firstOf (stateIn z s)) (told Miss ∷ [])
+pub first-none : {z : Shape} {s : List ℕ} {q : Queue} → Held z s → Starts z s q → {n : ℕ} → n ≡ length (queueOf q (stateIn z s)) → n ≡ 0
+    → Comes z s s (firstOf (stateIn z s)) (told Miss ∷ [])
 first-none {z} {s} {q} h f e n =
     comes-as (first-empty (stateIn z s) q (f .first) (nil (queueOf q (stateIn z s)) (sym e ∙ n))) (record { becomes = becomes-same (h .keeps); replies = refl })
 
 -- ---- both, after eviction
 
-pub evicts-one : {z : Shape} {s s₁ s₂ : List ℕ} {w : Evicted·} → Makes z s s₁ (evictIfFull (stateIn z s)) w → {c : Reply·} → Comes z s₁ s₂ (firstOf (stateIn z s₁)) (told c ∷ [])
+pub evicts-one : {z : Shape} {s s₁ s₂ : List ℕ} {w : Evicted·} → Makes z s s₁ (evictIfFull (stateIn z s)) w → {c : Reply·}
+    → Comes z s₁ s₂ (firstOf (stateIn z s₁)) (told c ∷ [])
     → (a : Spoken) → a .pushed ≡ w .pushed → a .closing ≡ c → Answers z s s₂ EV a
 unfolding apply onEvictOne
 evicts-one {z} {s} m {c} f a e d =

@@ -8,7 +8,7 @@ use native.Mathlib.Omega.{arith}
 use lib.Dec.{eqb}
 use lib.ListN.{length}
 use Rattle.nodes.specs.declared.Shape.{Shape}
-use Rattle.rules.specs.State.{Limits, State, Queue, Small, Main, fresh, pushTo, setGhosts, residents, places}
+use Rattle.rules.specs.State.{Limits, State, Queue, Small, Main, setGhosts, residents, places}
 use Rattle.rules.specs.Records.{IN, NW}
 use Rattle.rules.specs.Ghosts.{Removed, without, removeGhost}
 use Rattle.rules.specs.Eviction.{evictIfFull}

@@ -24,7 +24,8 @@ use Rattle.requests.specs.declared.Spoken.{Spoken}
 use Rattle.requests.specs.Answers.{spokenOf, alone, Answers, Comes}
 
 -- an answer, from what the rules come to
-pub answers : {z : Shape} {s s′ : List ℕ} {q : Request} {a : Spoken} (o : Outcome) → apply (stateIn z s) q ≡ o → Becomes z s s′ (o .state) → spokenOf a ≡ o .replies → Answers z s s′ q a
+pub answers : {z : Shape} {s s′ : List ℕ} {q : Request} {a : Spoken} (o : Outcome) → apply (stateIn z s) q ≡ o → Becomes z s s′ (o .state)
+    → spokenOf a ≡ o .replies → Answers z s s′ q a
 answers o e b r = record { becomes = rw e b; replies = rw e r }
 
 -- nothing changes
@@ -36,7 +37,8 @@ module _ {z : Shape} {s : List ℕ} where
   pub comes-as : {s′ : List ℕ} {o p : Outcome} {l : List Reply} → o ≡ p → Comes z s s′ p l → Comes z s s′ o l
   comes-as e c = rw e c
 
-  pub comes-then : {s₁ s₂ : List ℕ} {τ : State} {l : List Reply} (f : State → Outcome) → Becomes z s s₁ τ → Comes z s₁ s₂ (f (stateIn z s₁)) l → Comes z s s₂ (f τ) l
+  pub comes-then : {s₁ s₂ : List ℕ} {τ : State} {l : List Reply} (f : State → Outcome) → Becomes z s s₁ τ → Comes z s₁ s₂ (f (stateIn z s₁)) l
+      → Comes z s s₂ (f τ) l
   comes-then f b c = let d = rw (b .state) at c in record { becomes = becomes-then b (d .becomes); replies = d .replies }
 
 -- ---- a key that is not resident
@@ -87,11 +89,13 @@ module _ {z : Shape} {s : List ℕ} {k : ℕ} {r : Lookup} (l : Looks z s k r) {
     frequency : {n : ℕ} → n ≡ min maxFreq (y .freq + 1) → n ≡ min maxFreq (l .resident q x e .entry .freq + 1)
     frequency w = w ∙ ap (λ (d : Entry). min maxFreq (d .freq + 1)) read
 
-    pub get-hit : {n : ℕ} → n ≡ min maxFreq (y .freq + 1) → {s′ : List ℕ} → FreqSet z s s′ x n → {a : Spoken} → a ≡ alone (Hit (y .value)) → Answers z s s′ (GT k) a
+    pub get-hit : {n : ℕ} → n ≡ min maxFreq (y .freq + 1) → {s′ : List ℕ} → FreqSet z s s′ x n → {a : Spoken} → a ≡ alone (Hit (y .value))
+        → Answers z s s′ (GT k) a
     unfolding apply onGet
     get-hit w {s′} c d =
         let t = l .resident q x e in
-        answers (says (putAt (queueKind q) (t .before) (raise (t .entry) ∷ []) (t .after) (stateIn z s)) (HI (t .entry .value))) (ap (onGet (stateIn z s)) (t .place-is))
+        answers (says (putAt (queueKind q) (t .before) (raise (t .entry) ∷ []) (t .after) (stateIn z s)) (HI (t .entry .value)))
+        (ap (onGet (stateIn z s)) (t .place-is))
         (subst (λ i. Becomes z s s′ (putAt (queueKind q) (t .before) (withFreq i (t .entry) ∷ []) (t .after) (stateIn z s))) (frequency w)
         (c .of (queueKind q) (t .before) (t .entry) (t .after) (t .seat)))
         (ap spokenOf d ∙ ap (λ i. HI i ∷ []) old)
@@ -100,7 +104,8 @@ module _ {z : Shape} {s : List ℕ} {k : ℕ} {r : Lookup} (l : Looks z s k r) {
     unfolding apply onPeek
     peek-hit h d =
         let t = l .resident q x e in
-        answers (says (stateIn z s) (HI (t .entry .value))) (ap (onPeek (stateIn z s)) (t .place-is)) (becomes-same (h .keeps)) (ap spokenOf d ∙ ap (λ i. HI i ∷ []) old)
+        answers (says (stateIn z s) (HI (t .entry .value))) (ap (onPeek (stateIn z s)) (t .place-is)) (becomes-same (h .keeps))
+        (ap spokenOf d ∙ ap (λ i. HI i ∷ []) old)
 
     pub remove-gone : {s′ : List ℕ} → EntryRemoved z s s′ (queueKind q) x → {a : Spoken} → a ≡ alone (Gone (y .value)) → Answers z s s′ (RM k) a
     unfolding apply onRemove

@@ -48,7 +48,7 @@ fn raised(freq: usize) -> usize
 }
 
 // Lookup: the value, and the frequency raised. No list is reordered.
-pub fn get(s: &mut [u8], z: Shape, k: GuestBlock) -> Spoken
+fn get(s: &mut [u8], z: Shape, k: GuestBlock) -> Spoken
     requires { ⌜ Held z (now s) ⌝ }
     ensures { λ r. ⌜ Answers z (now (s .entry)) (now (s .exit)) (Request.GT (k .0)) r ⌝ }
 {
@@ -56,8 +56,8 @@ pub fn get(s: &mut [u8], z: Shape, k: GuestBlock) -> Spoken
     match found {
         Lookup::Resident(_, x) => {
             let entry = store::entry_at(s, z, x);
-            store::set_freq(s, z, x, raised(entry.freq));
             let value = entry.value;
+            store::set_freq(s, z, x, raised(entry.freq));
             alone(Reply::Hit(value))
         }
         Lookup::Ghost(_) => alone(Reply::Miss),
@@ -66,15 +66,15 @@ pub fn get(s: &mut [u8], z: Shape, k: GuestBlock) -> Spoken
 }
 
 // Peek: the value, and no change at all.
-pub fn peek(s: &[u8], z: Shape, k: GuestBlock) -> Spoken
+fn peek(s: &[u8], z: Shape, k: GuestBlock) -> Spoken
     requires { ⌜ Held z (now s) ⌝ }
     ensures { λ r. ⌜ Answers z (now (s .entry)) (now (s .entry)) (Request.PK (k .0)) r ⌝ }
 {
     let found = store::look(s, z, k);
     match found {
         Lookup::Resident(_, x) => {
-            let value = store::entry_at(s, z, x).value;
-            alone(Reply::Hit(value))
+            let v = store::entry_at(s, z, x).value;
+            alone(Reply::Hit(v))
         }
         Lookup::Ghost(_) => alone(Reply::Miss),
         Lookup::Absent => alone(Reply::Miss),
@@ -82,16 +82,16 @@ pub fn peek(s: &[u8], z: Shape, k: GuestBlock) -> Spoken
 }
 
 // Remove: a resident pair goes out; the ghosts stay as they are.
-pub fn remove(s: &mut [u8], z: Shape, k: GuestBlock) -> Spoken
+fn remove(s: &mut [u8], z: Shape, k: GuestBlock) -> Spoken
     requires { ⌜ Held z (now s) ⌝ }
     ensures { λ r. ⌜ Answers z (now (s .entry)) (now (s .exit)) (Request.RM (k .0)) r ⌝ }
 {
     let found = store::look(s, z, k);
     match found {
         Lookup::Resident(q, x) => {
-            let value = store::entry_at(s, z, x).value;
+            let v = store::entry_at(s, z, x).value;
             store::remove_at(s, z, q, x);
-            alone(Reply::Gone(value))
+            alone(Reply::Gone(v))
         }
         Lookup::Ghost(_) => alone(Reply::Miss),
         Lookup::Absent => alone(Reply::Miss),
@@ -114,7 +114,7 @@ fn arrive(s: &mut [u8], z: Shape, q: QueueKind, k: GuestBlock, v: PhysicalBlock)
 
 // Insert: a resident key gets the value and is raised; a ghost comes off its list, before eviction could drop it, and goes to Main; any other key
 // goes to Small.
-pub fn insert(s: &mut [u8], z: Shape, k: GuestBlock, v: PhysicalBlock) -> Spoken
+fn insert(s: &mut [u8], z: Shape, k: GuestBlock, v: PhysicalBlock) -> Spoken
     requires { ⌜ Held z (now s) ⌝ }
     ensures { λ r. ⌜ Answers z (now (s .entry)) (now (s .exit)) (Request.IN (k .0) (v .0)) r ⌝ }
 {
@@ -122,8 +122,8 @@ pub fn insert(s: &mut [u8], z: Shape, k: GuestBlock, v: PhysicalBlock) -> Spoken
     match found {
         Lookup::Resident(_, x) => {
             let entry = store::entry_at(s, z, x);
-            store::replace(s, z, x, v, raised(entry.freq));
             let old = entry.value;
+            store::replace(s, z, x, v, raised(entry.freq));
             alone(Reply::Replaced(old))
         }
         Lookup::Ghost(x) => {
@@ -188,7 +188,7 @@ fn hand_out(s: &mut [u8], z: Shape) -> Reply
 }
 
 // evict_one: eviction where the cache is full, and then one or two pops of its own.
-pub fn evict_one(s: &mut [u8], z: Shape) -> Spoken
+fn evict_one(s: &mut [u8], z: Shape) -> Spoken
     requires { ⌜ Held z (now s) ⌝ }
     ensures { λ r. ⌜ Answers z (now (s .entry)) (now (s .exit)) Request.EV r ⌝ }
 {
@@ -210,7 +210,7 @@ fn drain(s: &mut [u8], z: Shape, q: QueueKind)
 }
 
 // Clear: ghosts and queues become empty, node by node, so that it costs what is there.
-pub fn clear(s: &mut [u8], z: Shape) -> Spoken
+fn clear(s: &mut [u8], z: Shape) -> Spoken
     requires { ⌜ Held z (now s) ⌝ }
     ensures { λ r. ⌜ Answers z (now (s .entry)) (now (s .exit)) Request.CL r ⌝ }
 {

@@ -4,7 +4,7 @@ use mathlib.Core.Path.{_≡_, refl, ap}
 use mathlib.Core.List.{List}
 use Prim.Native.Nat.{ℕ}
 use Rattle.nodes.specs.declared.Shape.{Shape}
-use Rattle.rules.specs.State.{Limits, State, emptyAt}
+use Rattle.rules.specs.State.{Limits, emptyAt}
 use Rattle.store.specs.Holds.{stateIn, Held, Holds}
 use Rattle.store.specs.Created.{SetUp}
 use Rattle.store.proofs.HoldsLaws.{held-holds, held-shape}

@@ -15,16 +15,15 @@ use Rattle.cells.proofs.DecidesLaws.{accept, refuse, decides-map}
 use Rattle.nodes.specs.Nodes.{cols, Room}
 use Rattle.nodes.specs.declared.Shape.{Shape}
 use Rattle.pool.specs.Carries.{Pooled}
-use Rattle.rules.specs.State.{Entry, Limits, State, most, maxFreq, residents, Fine, Sound}
+use Rattle.rules.specs.State.{Entry, Limits, State, most, maxFreq, residents, Fine}
 use Rattle.rules.specs.Refusals.{storeBytes}
 use Rattle.rules.proofs.PartsLaws.{length-total}
 use Rattle.store.specs.declared.Entry.{Entry as Entry·}
-use Rattle.store.specs.Holds.{entryAt, limitsIn, stateIn, shapeFor, Keeps, Held, Holds}
+use Rattle.store.specs.Holds.{entryAt, stateIn, shapeFor, Keeps, Held, Holds}
 use Rattle.store.specs.Entries.{GetsEntry, HoldsResident}
 use Rattle.store.specs.Created.{Stated}
 use Rattle.store.proofs.PooledLaws.{pooled-places, bytes-narrow, nodes-cool, cool-nodes}
 use Rattle.store.proofs.HoldsLaws.{limits-shown, holds-limits, holds-held, room-for}
-use Rattle.soundness.specs.declared.Checked.{Checked}
 use Rattle.soundness.specs.declared.Checked.the-variants.{Sound as Sound·, Damaged}
 use Rattle.soundness.specs.Checks.{Shaped, Few, Cool, Checks}
 
@@ -77,7 +76,8 @@ module _ {σ : State} {a m : ℕ} (ra : a ≡ σ .limits .capacity) (rm : m ≡ 
     main-crowded i h = refuse (λ k. omega (arith, k .within, sums σ))
 
     pub few-decides : m ≤ a → n ≤ a - m → {g l : ℕ} → l ≡ σ .limits .ghostLimit → g ≡ length (σ .ghosts) → Decides (Few σ) (leb g l)
-    few-decides i h {g} {l} rl rg = decides-le g l (λ k. record { within = omega (arith, sums σ); few-ghosts = omega arith }) (λ k. omega (arith, k .few-ghosts))
+    few-decides i h {g} {l} rl rg =
+        decides-le g l (λ k. record { within = omega (arith, sums σ); few-ghosts = omega arith }) (λ k. omega (arith, k .few-ghosts))
 
 -- ---- how warm a node is
 

@@ -44,7 +44,7 @@ module _ {z : Shape} {s s′ : List ℕ} {L : Limits} (w : Limited z s s′ L) w
   pub limited-room : Fine L → storeBytes ≤ length s → z ≡ shapeFor L → length s′ ≡ length s → Room z s′
   limited-room f h e n = let r : Room z s = room-for f h e in room-kept r n
 
--- ---- and the pool laid behind it
+-- ---- and the pool set up behind it
 
 set-up-state : {z : Shape} {s s′ : List ℕ} → PoolSetUp z s s′ → stateIn z s′ ≡ emptyAt (limitsIn (cols z s))
 unfolding stateIn
@@ -61,7 +61,11 @@ made {L} {s} {s₁} {s₂} f b w l =
     let e : stateIn (shapeFor L) s₂ ≡ emptyAt L = set-up-state l ∙ ap emptyAt (limited-limits w) in
     record {
       held = record {
-        keeps = record { room = shape-room f b; pooled = record { carries = l .carries }; shaped = ap shapeFor (sym (limits-aside (l .aside) ∙ limited-limits w)) };
+        keeps = record {
+          room = shape-room f b;
+          pooled = record { carries = l .carries };
+          shaped = ap shapeFor (sym (limits-aside (l .aside) ∙ limited-limits w));
+        };
         sound = subst Sound (sym e) (empty-sound L f);
       };
       state = e;

@@ -24,7 +24,8 @@ pub same-limits : (z w : Shape) (s : List ℕ) → limitsIn (cols z s) ≡ limit
 same-limits z w s = ap limitsBy (same-header z w s)
 
 -- what was read of it at one shape stands there at every shape
-pub stated : {z : Shape} {s : List ℕ} {L : Limits} → GetsField z s Head 0 (L .capacity) → GetsField z s Head 1 (L .smallLimit) → GetsField z s Head 2 (L .ghostLimit) → Stated s L
+pub stated : {z : Shape} {s : List ℕ} {L : Limits} → GetsField z s Head 0 (L .capacity) → GetsField z s Head 1 (L .smallLimit)
+    → GetsField z s Head 2 (L .ghostLimit) → Stated s L
 stated {z} {s} a b c =
     record { limits = λ w. (λ i. record { capacity = a .value i; smallLimit = b .value i; ghostLimit = c .value i }) ∙ same-limits z w s }
 

@@ -5,27 +5,27 @@ use mathlib.Core.List.{List, [], _∷_, _++_, map, head-eq-of-cons-eq, tail-eq-o
 use Prim.Native.Nat.{ℕ, _+_, _≤_, _<_}
 use native.Mathlib.Omega.{arith}
 use lib.ListN.{length, getD}
-use Rattle.nodes.specs.Nodes.{Field, Head, Key, Value, Prev, Freq, Rest, Cols, cols, Room, SetsField, GetsField}
+use Rattle.nodes.specs.Nodes.{Head, Value, Prev, Freq, cols, SetsField, GetsField}
 use Rattle.nodes.specs.declared.Shape.{Shape}
 use Rattle.nodes.proofs.NodesLaws.{room-kept}
 use Rattle.nodes.proofs.OverLaws.{over-at}
 use Rattle.lists.specs.Ring.{Among, Last}
 use Rattle.lists.proofs.ListsLaws.{lists-tail, lists-once}
-use Rattle.pool.specs.Carries.{Carries, listsOf, Pooled, Aside, Alike, LiveList, CanMove, Moved, CanRelease, Released, CanFill, Filled}
+use Rattle.pool.specs.Carries.{listsOf, Pooled, Aside, LiveList, CanMove, Moved, CanRelease, Released, CanFill, Filled}
 use Rattle.pool.proofs.CarriesLaws.{carries-view}
 use Rattle.pool.proofs.PoolLaws.{freq-pooled, value-pooled, value-lists, value-aside, pooled-length, pooled-node, can-fill}
 use Rattle.rules.specs.declared.GuestBlock.{GuestBlock}
-use Rattle.rules.specs.Parts.{total}
-use Rattle.rules.specs.State.{Entry, Limits, State, Queue, Small, Main, fresh, withFreq, revalue, queueOf, setQueue, setGhosts, pushTo, putAt, residents, one, places}
+use Rattle.rules.specs.State.{Entry, State, Queue, Small, Main, withFreq, revalue, queueOf, setQueue, setGhosts, pushTo, putAt, residents}
 use Rattle.rules.proofs.PartsLaws.{length-total}
 use Rattle.rules.proofs.StateLaws.{set-again}
-use Rattle.store.specs.declared.QueueKind.{QueueKind}
 use Rattle.store.specs.declared.Entry.{Entry as Entry·}
-use Rattle.store.specs.Holds.{listNo, ghostsNo, entryAt, keyAt, limitsIn, stateIn, shapeFor, Keeps, Becomes}
+use Rattle.store.specs.Holds.{listNo, ghostsNo, entryAt, keyAt, stateIn, shapeFor, Keeps, Becomes}
 use Rattle.store.specs.Entries.{entryOf, GetsEntry, GetsGhost}
-use Rattle.store.specs.Seats.{Seat, Seated, Tail, GhostSeat, GhostSeated, Oldest, FreqSet, ValueReplaced, EntryRemoved, Reattached, DetachedToGhosts, GhostRemoved, Fronted, CanAttachHead, AttachedHead, CanPushFront, PushedFront}
+use Rattle.store.specs.Seats.{Seat, Seated, Tail, GhostSeat, GhostSeated, Oldest, CanAttachHead, AttachedHead, CanPushFront, PushedFront}
+use Rattle.store.specs.Seats.{FreqSet, ValueReplaced, EntryRemoved, Reattached, DetachedToGhosts, GhostRemoved, Fronted}
 use Rattle.store.proofs.MapLaws.{map-append, map-length, map-out}
-use Rattle.store.proofs.ShownLaws.{limits-aside, queue-shown, ghosts-shown, moved-main, moved-to-ghosts, moved-ghost, released-queue, released-ghost, filled-queue, filled-ghost, freq-written, valued, valued-other, valued-own}
+use Rattle.store.proofs.ShownLaws.{limits-aside, queue-shown, ghosts-shown, moved-main, moved-to-ghosts, moved-ghost, released-queue, released-ghost}
+use Rattle.store.proofs.ShownLaws.{filled-queue, filled-ghost, freq-written, valued, valued-other, valued-own}
 use Rattle.store.proofs.LookLaws.{places-miss}
 
 -- ---- lists of residents and of ghosts
@@ -71,7 +71,8 @@ module _ {z : Shape} {s : List ℕ} (k : Keeps z s) where
   tail-is {q} {t} {x} e g h =
       let r = k .pooled .carries .lists in
       let b = kind q .below in
-      let l : Last (getD (cols z s Prev) (z .room + listNo q) 0) (listsOf z (cols z s) (listNo q)) = lists-tail r b (omega (arith, r .counts (listNo q) b, queue-length z s q)) in
+      let l : Last (getD (cols z s Prev) (z .room + listNo q) 0) (listsOf z (cols z s) (listNo q)) =
+      lists-tail r b (omega (arith, r .counts (listNo q) b, queue-length z s q)) in
       let m : Last x (listsOf z (cols z s) (listNo q)) = rw (g .value, e) l in
       record {
         before = map (entryAt (cols z s)) (m .front);
@@ -83,7 +84,8 @@ module _ {z : Shape} {s : List ℕ} (k : Keeps z s) where
   oldest-is {x} g h =
       let r = k .pooled .carries .lists in
       let b = ghost-kind .below in
-      let l : Last (getD (cols z s Prev) (z .room + ghostsNo) 0) (listsOf z (cols z s) ghostsNo) = lists-tail r b (omega (arith, r .counts ghostsNo b, ghosts-length z s)) in
+      let l : Last (getD (cols z s Prev) (z .room + ghostsNo) 0) (listsOf z (cols z s) ghostsNo) =
+      lists-tail r b (omega (arith, r .counts ghostsNo b, ghosts-length z s)) in
       let m : Last x (listsOf z (cols z s) ghostsNo) = rw (g .value) l in
       record {
         before = map (keyAt (cols z s)) (m .front);
@@ -122,7 +124,8 @@ module _ {z : Shape} {s : List ℕ} (k : Keeps z s) where
   ghost-move h = record { pooled = k .pooled; from = ghost-kind; to = ghost-kind; among = ghost-among (h .seat) }
 
   -- how many nodes are in use
-  in-use : length (listsOf z (cols z s) 1) + length (listsOf z (cols z s) 2) + length (listsOf z (cols z s) 3) ≡ residents (stateIn z s) + length (stateIn z s .ghosts)
+  in-use : length (listsOf z (cols z s) 1) + length (listsOf z (cols z s) 2) + length (listsOf z (cols z s) 3)
+      ≡ residents (stateIn z s) + length (stateIn z s .ghosts)
   in-use = omega (arith, queue-length z s Small, queue-length z s Main, ghosts-length z s, length-total (stateIn z s .small), length-total (stateIn z s .main))
 
   rooms : z .room ≡ stateIn z s .limits .capacity + stateIn z s .limits .ghostLimit
@@ -144,7 +147,8 @@ seat-entry h g = g .entry ∙ h .here
 pub ghost-key : {z : Shape} {s : List ℕ} {x : ℕ} {b : List ℕ} {k : ℕ} {a : List ℕ} → GhostSeat z s x b k a → {r : GuestBlock} → GetsGhost z s x r → r .0 ≡ k
 ghost-key h g = g .key ∙ h .here
 
-pub seat-queue : (z : Shape) (s : List ℕ) {q : Queue} {x : ℕ} {b : List Entry} {e : Entry} {a : List Entry} → Seat z s q x b e a → queueOf q (stateIn z s) ≡ b ++ (e ∷ a)
+pub seat-queue : (z : Shape) (s : List ℕ) {q : Queue} {x : ℕ} {b : List Entry} {e : Entry} {a : List Entry} → Seat z s q x b e a
+    → queueOf q (stateIn z s) ≡ b ++ (e ∷ a)
 seat-queue z s {q} {x} {b} {e} {a} h =
     queue-shown z s q ∙ ap (map (entryAt (cols z s))) (h .is) ∙ map-append (entryAt (cols z s)) (h .front) (x ∷ h .back)
     ∙ (λ i. h .before i ++ (h .here i ∷ h .after i))
@@ -179,7 +183,10 @@ module _ {z : Shape} {s s′ : List ℕ} (k : Keeps z s) (n : length s′ ≡ le
         of = λ b y a h.
             becomes (m .pooled) (m .alike .aside)
             (moved-to-ghosts z s s′ (h .front) x (h .back) q (h .is) m
-            ∙ ap (λ (n : ℕ). setGhosts (n ∷ stateIn z s .ghosts) (setQueue q (map (entryAt (cols z s)) (h .front) ++ map (entryAt (cols z s)) (h .back)) (stateIn z s))) (ap (λ (w : Entry). w .key) (h .here))
+            ∙ ap
+            (λ (w : Entry).
+            setGhosts (w .key ∷ stateIn z s .ghosts) (setQueue q (map (entryAt (cols z s)) (h .front) ++ map (entryAt (cols z s)) (h .back)) (stateIn z s)))
+            (h .here)
             ∙ ap₂ (λ l r. setGhosts (y .key ∷ stateIn z s .ghosts) (setQueue q (l ++ r) (stateIn z s))) (h .before) (h .after));
       }
 
@@ -245,7 +252,8 @@ module _ {z : Shape} {s s₁ : List ℕ} (k : Keeps z s) (n : length s₁ ≡ le
     main-seat : Seat z s₁ Main x [] e (queueOf Main (setQueue q (b ++ a) (stateIn z s)))
     main-seat = record { front = []; back = heads .0; is = heads .1; before = refl; here = head-eq-of-cons-eq shows; after = tail-eq-of-cons-eq shows }
 
-  pub reattached : {s₂ : List ℕ} → length s₂ ≡ length s₁ → {q : Queue} {t x v : ℕ} → t ≡ listNo q → Moved z s s₁ t (listNo Main) x → SetsField z s₁ s₂ Freq x v → Reattached z s s₂ q x v
+  pub reattached : {s₂ : List ℕ} → length s₂ ≡ length s₁ → {q : Queue} {t x v : ℕ} → t ≡ listNo q → Moved z s s₁ t (listNo Main) x
+      → SetsField z s₁ s₂ Freq x v → Reattached z s s₂ q x v
   reattached {s₂} n₁ {q} {t} {x} {v} e m₀ w =
       let m : Moved z s s₁ (listNo q) (listNo Main) x = rw e at m₀ in
       record {
@@ -276,7 +284,8 @@ module _ {z : Shape} {s s₁ : List ℕ} (k : Keeps z s) {x v : ℕ} (w : SetsFi
         after = map-out (entryAt (cols z s)) (entryAt (cols z s₁)) x (h .back) (o .1) (valued-other w) ∙ h .after;
       }
 
-  seat-becomes : length s₁ ≡ length s → {q : Queue} {b : List Entry} {e : Entry} {a : List Entry} → Seat z s q x b e a → Becomes z s s₁ (putAt q b (revalue v e ∷ []) a (stateIn z s))
+  seat-becomes : length s₁ ≡ length s → {q : Queue} {b : List Entry} {e : Entry} {a : List Entry} → Seat z s q x b e a
+      → Becomes z s s₁ (putAt q b (revalue v e ∷ []) a (stateIn z s))
   seat-becomes n {q} {b} {e} {a} h =
       becomes k n (value-pooled (k .pooled) w) (value-aside w)
       (valued z s s₁ (k .pooled) q (h .front) x (h .back) (h .is) v w
@@ -290,5 +299,6 @@ module _ {z : Shape} {s s₁ : List ℕ} (k : Keeps z s) {x v : ℕ} (w : SetsFi
             let f = seat-becomes l h in
             let g = freq-set (f .keeps) l₁ m .of q b (revalue v e) a (seat-valued h) in
             let t : List Entry = b ++ (revalue v (withFreq n e) ∷ a) in
-            becomes-then f (record { keeps = g .keeps; state = g .state ∙ ap (setQueue q t) (f .state) ∙ set-again q t (b ++ (revalue v e ∷ a)) (stateIn z s); rest = g .rest });
+            let r = g .state ∙ ap (setQueue q t) (f .state) ∙ set-again q t (b ++ (revalue v e ∷ a)) (stateIn z s) in
+            becomes-then f (record { keeps = g .keeps; state = r; rest = g .rest });
       }

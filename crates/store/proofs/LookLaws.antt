@@ -1,31 +1,30 @@
 -- What a node found by its key says of the state: which entry it carries, and that no other place has the key.
 -- Assumes nothing.
-use mathlib.Core.Path.{_≡_, refl, sym, ap, ap₂, _∙_, subst}
-use mathlib.Core.Logic.{_≢_}
+use mathlib.Core.Path.{_≡_, refl, sym, ap, _∙_, subst}
 use mathlib.Core.Bool.{Bool, true, false}
-use mathlib.Core.List.{List, [], _∷_, _++_, map}
+use mathlib.Core.List.{List, [], _∷_, map}
 use Prim.Native.Nat.{ℕ, zero, suc, _+_, _≤_, _<_}
 use native.Mathlib.Omega.{arith}
 use lib.Dec.{eqb}
-use lib.ListN.{length, getD}
-use borrow.Author.Tests.{eq-eqb, ne-eqb, eqb-true}
+use lib.ListN.{getD}
+use borrow.Author.Tests.{eq-eqb, ne-eqb}
 use Rattle.nodes.specs.Nodes.{Key, Queue as Tag, Cols, cols, GetsField}
 use Rattle.nodes.specs.declared.Shape.{Shape}
 use Rattle.lists.specs.Ring.{Among}
-use Rattle.key_index.specs.Stored.{LiveIn, Hit, Miss, IsFound}
+use Rattle.key_index.specs.Stored.{Hit, Miss, IsFound}
 use Rattle.key_index.specs.declared.Found.{Found}
 use Rattle.key_index.specs.declared.Found.the-variants.{At, Nothing}
 use Rattle.pool.specs.Carries.{listsOf, Pooled, LiveList}
-use Rattle.pool.proofs.CarriesLaws.{lives-tagged, lives-kind, lives-among, among-miss, among-lives}
-use Rattle.rules.specs.Parts.{bit, total, found, missing, splitBy}
-use Rattle.rules.specs.State.{Entry, State, Queue, Small, Main, keyIs, queueOf, keyed, places, place, nowhere, here, Sound}
-use Rattle.rules.proofs.PartsLaws.{total-append, total-mid}
-use Rattle.rules.proofs.EngineLaws.{place-is, place-none, split-is, split-none}
+use Rattle.pool.proofs.CarriesLaws.{lives-kind, lives-among, among-miss}
+use Rattle.rules.specs.Parts.{bit, total, found, splitBy}
+use Rattle.rules.specs.State.{Queue, Small, keyIs, places, here}
+use Rattle.rules.proofs.PartsLaws.{total-mid}
+use Rattle.rules.proofs.EngineLaws.{place-is, place-none, split-is}
 use Rattle.store.specs.declared.QueueKind.{QueueKind}
 use Rattle.store.specs.declared.QueueKind.the-variants.{Small as Small·, Main as Main·}
 use Rattle.store.specs.declared.Lookup.{Lookup}
 use Rattle.store.specs.declared.Lookup.the-variants.{Resident, Ghost, Absent}
-use Rattle.store.specs.Holds.{listNo, ghostsNo, entryAt, keyAt, stateIn, Keeps, Held}
+use Rattle.store.specs.Holds.{listNo, ghostsNo, entryAt, keyAt, stateIn, Held}
 use Rattle.store.specs.Seats.{queueKind, Seated, GhostSeated, Oldest, Tail}
 use Rattle.store.specs.Looks.{IsResident, IsGhost, Lacks, Looks}
 use Rattle.store.proofs.MapLaws.{map-append, total-map, total-none, total-some}
@@ -95,7 +94,8 @@ module _ {z : Shape} {s : List ℕ} (h : Held z s) where
         seat = record { front = a .front; back = a .back; is = a .is; before = refl; here = refl; after = refl };
         key = e;
         place-is = place-is k (stateIn z s) q _ (entryAt (cols z s) x) _ (h .sound .once k)
-            (queue-shown z s q ∙ ap (map (entryAt (cols z s))) (a .is) ∙ map-append (entryAt (cols z s)) (a .front) (x ∷ a .back)) (eq-eqb k (getD (cols z s Key) x 0) (sym e));
+            (queue-shown z s q ∙ ap (map (entryAt (cols z s))) (a .is) ∙ map-append (entryAt (cols z s)) (a .front) (x ∷ a .back))
+            (eq-eqb k (getD (cols z s Key) x 0) (sym e));
       }
 
   ghost-at : (k x : ℕ) → getD (cols z s Key) x 0 ≡ k → Among x (listsOf z (cols z s) ghostsNo) → IsGhost z s k x
@@ -110,7 +110,8 @@ module _ {z : Shape} {s : List ℕ} (h : Held z s) where
         place-is = place-none k (stateIn z s) (omega (arith, h .sound .once k, ap bit t));
         split-is =
             ap (splitBy (eqb k)) g
-            ∙ split-is (eqb k) (map (keyAt (cols z s)) (a .front)) (keyAt (cols z s) x) (map (keyAt (cols z s)) (a .back)) (omega (arith, h .sound .once k, ap bit t)) t
+            ∙ split-is (eqb k) (map (keyAt (cols z s)) (a .front)) (keyAt (cols z s) x) (map (keyAt (cols z s)) (a .back))
+            (omega (arith, h .sound .once k, ap bit t)) t
             ∙ ap (λ y. found (map (keyAt (cols z s)) (a .front)) y (map (keyAt (cols z s)) (a .back))) e;
       }
 
@@ -128,7 +129,7 @@ module _ {z : Shape} {s : List ℕ} (h : Held z s) where
       at-list : (q : QueueKind) → t ≡ listNo (queueKind q) → Looks z s k (Resident q x)
       at-list q n =
           record {
-            resident = λ p y w. rw (same-queue w, same-node w) at (resident-in k x (queueKind q) (hit .holds) (subst (λ i. Among x (listsOf z (cols z s) i)) n among));
+            resident = λ p y w. rw (same-queue w, same-node w) at (resident-in k x (queueKind q) (hit .holds) (rw n at among));
             is-ghost = λ y w. let b : _≡_ {A = ℕ} 0 1 = cc in absurd (omega arith);
             absent = λ w. let b : _≡_ {A = ℕ} 0 1 = cc in absurd (omega arith);
           }
@@ -165,12 +166,6 @@ module _ {z : Shape} {s : List ℕ} (h : Held z s) where
         }
 
 -- ---- from an answer to what the moves ask for
-
-pub looks-resident : {z : Shape} {s : List ℕ} {k : ℕ} {r : Lookup} → Looks z s k r → {q : QueueKind} {x : ℕ} → r ≡ Resident q x → IsResident z s k (queueKind q) x
-looks-resident l {q} {x} e = l .resident q x e
-
-pub looks-ghost : {z : Shape} {s : List ℕ} {k : ℕ} {r : Lookup} → Looks z s k r → {x : ℕ} → r ≡ Ghost x → IsGhost z s k x
-looks-ghost l {x} e = l .is-ghost x e
 
 pub looks-lacks : {z : Shape} {s : List ℕ} {k : ℕ} {r : Lookup} → Looks z s k r → r ≡ Absent → Lacks z s k
 looks-lacks l e = l .absent e

@@ -6,11 +6,11 @@ use mathlib.Core.Bool.{Bool, true, false}
 use mathlib.Core.List.{List, _∷_, _++_}
 use Prim.Native.Nat.{ℕ, _+_, _≤_, _<_}
 use native.Mathlib.Omega.{arith}
-use lib.Dec.{eqb, ltb, leb}
+use lib.Dec.{eqb, ltb}
 use lib.ListN.{getD}
-use borrow.Author.Tests.{eq-eqb, ne-eqb, eqb-true, ltb-false, le-ltb, lt-leb}
+use borrow.Author.Tests.{ne-eqb, eqb-true, ltb-false, le-ltb, lt-leb}
 use Rattle.cells.specs.Cells.{Bytes}
-use Rattle.nodes.specs.Nodes.{Key, Value, Queue as Tag, Freq, Cols, cols}
+use Rattle.nodes.specs.Nodes.{Key, Value, Queue as Tag, Freq, cols}
 use Rattle.nodes.specs.declared.Shape.{Shape}
 use Rattle.nodes.proofs.NodesLaws.{cols-lt}
 use Rattle.lists.specs.Ring.{Every, Out, Among}
@@ -63,7 +63,8 @@ module _ (z : Shape) (s : List ℕ) (p : Pooled z s) (k : ℕ) where
 
     elsewhere : (u : ℕ) → LiveList u → u ≢ t → total has (f u) ≡ 0
     elsewhere u ku n =
-        total-none has (f u) (λ y m. others u y ku m (λ i. n (sym (among-tag (p .carries) ku m) ∙ ap (λ w. getD (cols z s Tag) w 0) i ∙ among-tag (p .carries) kt here)))
+        total-none has (f u)
+        (λ y m. others u y ku m (λ i. n (sym (among-tag (p .carries) ku m) ∙ ap (λ w. getD (cols z s Tag) w 0) i ∙ among-tag (p .carries) kt here)))
 
   once-by : (u v w : Split ℕ) → Splits (λ y. eqb k (key y)) (f 1) u → Splits (λ y. eqb k (key y)) (f 2) v → Splits (λ y. eqb k (key y)) (f 3) w
       → total has (f 1) + total has (f 2) + total has (f 3) ≤ 1
@@ -88,7 +89,8 @@ module _ (z : Shape) (s : List ℕ) (p : Pooled z s) (k : ℕ) where
         total-map (λ (e : Entry). bit (keyIs k e)) (entryAt (cols z s)) (f 1),
         total-map (λ (e : Entry). bit (keyIs k e)) (entryAt (cols z s)) (f 2),
         total-map (λ g. bit (eqb k g)) (keyAt (cols z s)) (f 3),
-        once-by (splitBy has-key (f 1)) (splitBy has-key (f 2)) (splitBy has-key (f 3)) (split-law has-key (f 1)) (split-law has-key (f 2)) (split-law has-key (f 3)),
+        once-by (splitBy has-key (f 1)) (splitBy has-key (f 2)) (splitBy has-key (f 3))
+            (split-law has-key (f 1)) (split-law has-key (f 2)) (split-law has-key (f 3)),
       )
 
 -- ---- bytes are narrow
@@ -110,7 +112,8 @@ module _ (z : Shape) (s : List ℕ) (b : Bytes s) where
         arith,
         total-map (λ (e : Entry). wide (e .key) + wide (e .value)) (entryAt (cols z s)) (listsOf z (cols z s) 1) ∙ narrow-entries (listsOf z (cols z s) 1),
         total-map (λ (e : Entry). wide (e .key) + wide (e .value)) (entryAt (cols z s)) (listsOf z (cols z s) 2) ∙ narrow-entries (listsOf z (cols z s) 2),
-        total-map wide (keyAt (cols z s)) (listsOf z (cols z s) 3) ∙ total-none (λ y. wide (getD (cols z s Key) y 0)) (listsOf z (cols z s) 3) (λ y m. narrow-key y),
+        total-map wide (keyAt (cols z s)) (listsOf z (cols z s) 3)
+            ∙ total-none (λ y. wide (getD (cols z s Key) y 0)) (listsOf z (cols z s) 3) (λ y m. narrow-key y),
       )
 
 -- ---- freqs and frequencies

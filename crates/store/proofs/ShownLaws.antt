@@ -1,22 +1,21 @@
 -- What the pool's moves and writes are in the state that a store shows.
 -- Assumes nothing.
-use mathlib.Core.Path.{_≡_, refl, sym, ap, ap₂, _∙_, subst}
+use mathlib.Core.Path.{_≡_, refl, ap, ap₂, _∙_}
 use mathlib.Core.Logic.{_≢_}
 use mathlib.Core.List.{List, [], _∷_, _++_, map}
-use Prim.Native.Nat.{ℕ, _+_, _*_, _≤_, _<_}
+use Prim.Native.Nat.{ℕ, _+_, _<_}
 use native.Mathlib.Omega.{arith}
-use lib.ListN.{length, getD, set}
+use lib.ListN.{getD, set}
 use lib.Seq.{getD-set-same, getD-set-other}
-use Rattle.nodes.specs.Nodes.{Field, Head, Key, Value, Next, Freq, Rest, Cols, cols, over, Room, SetsField}
+use Rattle.nodes.specs.Nodes.{Head, Key, Value, Next, Freq, Cols, cols, SetsField}
 use Rattle.nodes.specs.declared.Shape.{Shape}
 use Rattle.nodes.proofs.NodesLaws.{length-cols}
 use Rattle.nodes.proofs.OverLaws.{over-at}
-use Rattle.lists.specs.Ring.{Out, Among}
-use Rattle.lists.specs.Pool.{upd, view}
-use Rattle.lists.specs.Lists.{Lists}
-use Rattle.lists.proofs.ListsLaws.{lists-view, lists-node, lists-once, lists-elsewhere, lists-ext}
+use Rattle.lists.specs.Ring.{Out}
+use Rattle.lists.specs.Pool.{view}
+use Rattle.lists.proofs.ListsLaws.{lists-view, lists-node, lists-once, lists-elsewhere}
 use Rattle.pool.specs.Carries.{Carries, listsOf, Pooled, Aside, Alike, Moved, Released, Filled}
-use Rattle.rules.specs.State.{Entry, Limits, State, Queue, Small, Main, fresh, withFreq, revalue, queueOf, setQueue, setGhosts, pushTo, putAt}
+use Rattle.rules.specs.State.{Entry, Limits, Queue, Small, Main, fresh, withFreq, revalue, queueOf, setQueue, setGhosts, pushTo, putAt}
 use Rattle.store.specs.Holds.{listNo, ghostsNo, entryBy, entryAt, nodeKey, keyAt, limitsIn, shown, stateIn}
 use Rattle.store.proofs.MapLaws.{map-append, map-out, map-at}
 
@@ -119,7 +118,14 @@ module _ (z : Shape) (s s′ : List ℕ) (k v x : ℕ) (p : Pooled z s) where
 
     other-entry : (y : ℕ) → y ≢ x → entryAt (cols z s′) y ≡ entryAt (cols z s) y
     other-entry y n =
-        rw (f .keys, f .values, f .freqs, getD-set-other (cols z s Key) x y k 0 n, getD-set-other (cols z s Value) x y v 0 n, getD-set-other (cols z s Freq) x y 0 0 n)
+        rw (
+          f .keys,
+          f .values,
+          f .freqs,
+          getD-set-other (cols z s Key) x y k 0 n,
+          getD-set-other (cols z s Value) x y v 0 n,
+          getD-set-other (cols z s Freq) x y 0 0 n,
+        )
 
     own-entry : entryAt (cols z s′) x ≡ fresh k v
     own-entry =
@@ -201,10 +207,11 @@ module _ (z : Shape) (s s′ : List ℕ) (p : Pooled z s) (q : Queue) (a : List 
   touched-list : (n : Entry) → Touched n → map (entryAt (cols z s′)) (listsOf z (cols z s′) (listNo q)) ≡ map e₀ a ++ (n ∷ map e₀ b)
   touched-list n t =
       ap (λ l. map (entryAt (cols z s′)) (view (z .room) l (listNo q))) (t .links-kept) ∙ ap (map (entryAt (cols z s′))) h
-      ∙ map-at e₀ (entryAt (cols z s′)) a x b (lists-once (p .carries .lists) own-list a x b h .0) (lists-once (p .carries .lists) own-list a x b h .1) (t .others)
+      ∙ (let o = lists-once (p .carries .lists) own-list a x b h in map-at e₀ (entryAt (cols z s′)) a x b (o .0) (o .1) (t .others))
       ∙ ap (λ m. map e₀ a ++ (m ∷ map e₀ b)) (t .own)
 
-  touched-other : (n : Entry) → Touched n → (i : ℕ) → i ≢ listNo q → i < 4 → map (entryAt (cols z s′)) (listsOf z (cols z s′) i) ≡ map e₀ (listsOf z (cols z s) i)
+  touched-other : (n : Entry) → Touched n → (i : ℕ) → i ≢ listNo q → i < 4
+      → map (entryAt (cols z s′)) (listsOf z (cols z s′) i) ≡ map e₀ (listsOf z (cols z s) i)
   touched-other n t i ne l =
       ap (λ m. map (entryAt (cols z s′)) (view (z .room) m i)) (t .links-kept)
       ∙ map-out e₀ (entryAt (cols z s′)) x (listsOf z (cols z s) i) (lists-elsewhere (p .carries .lists) own-list a x b h i ne l) (t .others)
@@ -213,7 +220,8 @@ module _ (z : Shape) (s s′ : List ℕ) (p : Pooled z s) (q : Queue) (a : List 
   touched-ghosts n t = ap₂ (λ l m. map (nodeKey m) (view (z .room) l ghostsNo)) (t .links-kept) (t .keys-kept)
 
 -- the entry at x alone is another
-pub touched : (z : Shape) (s s′ : List ℕ) (p : Pooled z s) (q : Queue) (a : List ℕ) (x : ℕ) (b : List ℕ) (h : listsOf z (cols z s) (listNo q) ≡ a ++ x ∷ b) (n : Entry)
+pub touched : (z : Shape) (s s′ : List ℕ) (p : Pooled z s) (q : Queue) (a : List ℕ) (x : ℕ) (b : List ℕ)
+    (h : listsOf z (cols z s) (listNo q) ≡ a ++ x ∷ b) (n : Entry)
     → Touched z s s′ p q a x b h n → stateIn z s′ ≡ putAt q (map (entryAt (cols z s)) a) (n ∷ []) (map (entryAt (cols z s)) b) (stateIn z s)
 unfolding stateIn
 touched z s s′ p Small a x b h n t = λ i.
@@ -248,14 +256,16 @@ module _ {z : Shape} {s s′ : List ℕ} {x v : ℕ} (w : SetsField z s s′ Val
   pub valued-own : x < z .room → entryAt (cols z s′) x ≡ revalue v (entryAt (cols z s) x)
   valued-own l = rw (value-keys, value-freqs, value-values, getD-set-same (cols z s Value) x v 0 (rw (length-cols z s Value refl) (omega arith)))
 
-module _ (z : Shape) (s s′ : List ℕ) (p : Pooled z s) (q : Queue) (a : List ℕ) (x : ℕ) (b : List ℕ) (h : listsOf z (cols z s) (listNo q) ≡ a ++ x ∷ b) (v : ℕ) where
+module _ (z : Shape) (s s′ : List ℕ) (p : Pooled z s) (q : Queue) (a : List ℕ) (x : ℕ) (b : List ℕ)
+    (h : listsOf z (cols z s) (listNo q) ≡ a ++ x ∷ b) (v : ℕ) where
   abbrev e₁ : Entry
   e₁ = entryAt (cols z s) x
 
   below : x < z .room
   below = node-in z s s′ p q a x b h
 
-  pub freq-written : SetsField z s s′ Freq x v → stateIn z s′ ≡ putAt q (map (entryAt (cols z s)) a) (withFreq v e₁ ∷ []) (map (entryAt (cols z s)) b) (stateIn z s)
+  pub freq-written : SetsField z s s′ Freq x v
+      → stateIn z s′ ≡ putAt q (map (entryAt (cols z s)) a) (withFreq v e₁ ∷ []) (map (entryAt (cols z s)) b) (stateIn z s)
   freq-written w =
       let l = below in
       let k : cols z s′ Key ≡ cols z s Key = rw (w .columns, over-at) in
@@ -273,4 +283,10 @@ module _ (z : Shape) (s s′ : List ℕ) (p : Pooled z s) (q : Queue) (a : List 
   pub valued : SetsField z s s′ Value x v → stateIn z s′ ≡ putAt q (map (entryAt (cols z s)) a) (revalue v e₁ ∷ []) (map (entryAt (cols z s)) b) (stateIn z s)
   valued w =
       touched z s s′ p q a x b h (revalue v e₁)
-      (record { links-kept = rw (w .columns, over-at); heads-kept = rw (w .columns, over-at); keys-kept = rw (w .columns, over-at); others = valued-other w; own = valued-own w below })
+      (record {
+        links-kept = rw (w .columns, over-at);
+        heads-kept = rw (w .columns, over-at);
+        keys-kept = rw (w .columns, over-at);
+        others = valued-other w;
+        own = valued-own w below;
+      })

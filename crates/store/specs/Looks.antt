@@ -6,7 +6,7 @@ use Prim.Native.Nat.{ℕ}
 use lib.Dec.{eqb}
 use Rattle.nodes.specs.declared.Shape.{Shape}
 use Rattle.rules.specs.Parts.{found, splitBy}
-use Rattle.rules.specs.State.{Entry, State, Queue, places, place, nowhere, here}
+use Rattle.rules.specs.State.{Entry, Queue, places, place, nowhere, here}
 use Rattle.store.specs.declared.QueueKind.{QueueKind}
 use Rattle.store.specs.declared.Lookup.{Lookup}
 use Rattle.store.specs.declared.Lookup.the-variants.{Resident, Ghost, Absent}

@@ -7,10 +7,10 @@ use lib.ListN.{length}
 use Rattle.nodes.specs.Nodes.{cols}
 use Rattle.nodes.specs.declared.Shape.{Shape}
 use Rattle.pool.specs.Carries.{listsOf}
-use Rattle.rules.specs.State.{Entry, State, Queue, Small, Main, fresh, withFreq, revalue, setQueue, setGhosts, pushTo, putAt, residents, places}
+use Rattle.rules.specs.State.{Entry, Queue, Small, Main, fresh, withFreq, revalue, setQueue, setGhosts, pushTo, putAt, residents, places}
 use Rattle.store.specs.declared.QueueKind.{QueueKind}
 use Rattle.store.specs.declared.QueueKind.the-variants.{Small as Small·, Main as Main·}
-use Rattle.store.specs.Holds.{listNo, ghostsNo, entryAt, keyAt, stateIn, Keeps, Becomes}
+use Rattle.store.specs.Holds.{listNo, ghostsNo, entryAt, keyAt, stateIn, Becomes}
 
 -- the queue that the code's is
 abbrev pub queueKind : QueueKind → Queue
@@ -48,6 +48,7 @@ pub record GhostSeat (z : Shape) (s : List ℕ) (x : ℕ) (b : List ℕ) (k : �
   pub here : keyAt (cols z s) x ≡ k
   pub after : map (keyAt (cols z s)) back ≡ a
 
+-- the node x carries some ghost
 pub record GhostSeated (z : Shape) (s : List ℕ) (x : ℕ) : Type 0 where
   pub before : List ℕ
   pub key : ℕ
@@ -68,7 +69,8 @@ pub record FreqSet (z : Shape) (s s′ : List ℕ) (x n : ℕ) : Type 0 where
 
 -- the entry at x got the value v and then the frequency n
 pub record ValueReplaced (z : Shape) (s s′ : List ℕ) (x v n : ℕ) : Type 0 where
-  pub of : (q : Queue) (b : List Entry) (e : Entry) (a : List Entry) → Seat z s q x b e a → Becomes z s s′ (putAt q b (revalue v (withFreq n e) ∷ []) a (stateIn z s))
+  pub of : (q : Queue) (b : List Entry) (e : Entry) (a : List Entry) → Seat z s q x b e a
+      → Becomes z s s′ (putAt q b (revalue v (withFreq n e) ∷ []) a (stateIn z s))
 
 -- the entry at x left its queue
 pub record EntryRemoved (z : Shape) (s s′ : List ℕ) (q : Queue) (x : ℕ) : Type 0 where
@@ -80,7 +82,8 @@ pub record Reattached (z : Shape) (s s′ : List ℕ) (q : Queue) (x n : ℕ) : 
 
 -- the entry at x left its queue, and its node is the newest ghost
 pub record DetachedToGhosts (z : Shape) (s s′ : List ℕ) (q : Queue) (x : ℕ) : Type 0 where
-  pub of : (b : List Entry) (e : Entry) (a : List Entry) → Seat z s q x b e a → Becomes z s s′ (setGhosts (e .key ∷ stateIn z s .ghosts) (setQueue q (b ++ a) (stateIn z s)))
+  pub of : (b : List Entry) (e : Entry) (a : List Entry) → Seat z s q x b e a
+      → Becomes z s s′ (setGhosts (e .key ∷ stateIn z s .ghosts) (setQueue q (b ++ a) (stateIn z s)))
 
 -- the ghost at x was taken off
 pub record GhostRemoved (z : Shape) (s s′ : List ℕ) (x : ℕ) : Type 0 where
@@ -98,12 +101,13 @@ pub record AttachedHead (z : Shape) (s s′ : List ℕ) (q : Queue) (k v : ℕ) 
 pub record PushedFront (z : Shape) (s s′ : List ℕ) (k : ℕ) : Type 0 where
   pub becomes : Becomes z s s′ (setGhosts (k ∷ stateIn z s .ghosts) (stateIn z s))
 
--- there is a node for one more resident, or ghost, with the key k
+-- there is a node for one more resident with the key k, which stands nowhere
 pub record CanAttachHead (z : Shape) (s : List ℕ) (k : ℕ) : Type 0 where
   pub none : places k (stateIn z s) ≡ 0
   pub less : residents (stateIn z s) < stateIn z s .limits .capacity
   pub few : length (stateIn z s .ghosts) ≤ stateIn z s .limits .ghostLimit
 
+-- the same for one more ghost
 pub record CanPushFront (z : Shape) (s : List ℕ) (k : ℕ) : Type 0 where
   pub none : places k (stateIn z s) ≡ 0
   pub within : residents (stateIn z s) ≤ stateIn z s .limits .capacity

@@ -1,6 +1,5 @@
 -- `soundness::limits_fine` meets its contract: one test for each part of `Fine`.
 -- Assumes nothing.
-use borrow.Author.Needs.{needs}
 use Rattle.soundness.proofs.CheckLaws.{no-capacity, capacity-above, small-above, ghosts-decide}
 use Rattle.soundness.proofs.limits_fine.Statement.{statement}
 use Rattle.soundness.proofs.limits_fine.Tie as tie

@@ -1,7 +1,7 @@
 -- `store::len_of` meets its contract.
 -- Assumes nothing.
 use borrow.Author.Needs.{needs}
-use Rattle.store.proofs.KeepsLaws.{kind, length-is}
+use Rattle.store.proofs.KeepsLaws.{length-is}
 use Rattle.store.proofs.len_of.Statement.{statement}
 use Rattle.store.proofs.len_of.Tie as tie
 

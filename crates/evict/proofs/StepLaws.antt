@@ -2,7 +2,7 @@
 -- Assumes nothing.
 use mathlib.Core.Path.{_≡_, refl, sym, ap, ap₂, _∙_}
 use mathlib.Core.List.{List, [], _∷_, append-nil}
-use Prim.Native.Nat.{ℕ, _-_, _≤_, _<_}
+use Prim.Native.Nat.{ℕ, _≤_, _<_}
 use native.Mathlib.Omega.{arith}
 use lib.ListN.{length}
 use borrow.Author.Tests.{lt-ltb, le-ltb}
@@ -10,7 +10,7 @@ use Rattle.nodes.specs.declared.Shape.{Shape}
 use Rattle.rules.specs.declared.GuestBlock.{GuestBlock}
 use Rattle.rules.specs.declared.PhysicalBlock.{PhysicalBlock}
 use Rattle.rules.specs.State.{Entry, State, Queue, Small, Main, queueOf, setQueue, residents}
-use Rattle.rules.specs.Eviction.{moved, left, stays, back, ghosted, step}
+use Rattle.rules.specs.Eviction.{moved, left, back, ghosted, step}
 use Rattle.rules.proofs.PartsLaws.{null-none, null-some}
 use Rattle.rules.proofs.EngineLaws.{step-moves, step-leaves}
 use Rattle.rules.proofs.EvictionLaws.{idle-law}

@@ -10,7 +10,6 @@ use lib.Seq.{getD-set-other}
 use lib.ListN.{set}
 use Rattle.cells.specs.Members.{Every, Out}
 use Rattle.cells.proofs.MembersLaws.{every-map}
-pub use Rattle.cells.proofs.MembersLaws.{every-append, every-less}
 use Rattle.lists.specs.Ring.{Tagged}
 
 -- what lies above every member is none

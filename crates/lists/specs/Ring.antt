@@ -6,7 +6,7 @@ use Prim.Native.Nat.{ℕ, zero, suc, _≤_, _<_}
 use lib.Dec.{eqb}
 use lib.ListN.{length, getD}
 use Rattle.cells.specs.Columns.{pick}
-pub use Rattle.cells.specs.Members.{Every, Out, Among}
+use Rattle.cells.specs.Members.{Every}
 
 -- x is the first member
 pub record First (x : ℕ) (l : List ℕ) : Type 0 where

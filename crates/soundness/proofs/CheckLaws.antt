@@ -5,13 +5,12 @@ use mathlib.Core.Bool.{Bool, true, false, not}
 use mathlib.Core.List.{List}
 use Prim.Native.Nat.{ℕ, _+_, _-_, _≤_, _<_}
 use native.Mathlib.Omega.{arith}
-use native.Mathlib.Decide.{decLe}
 use lib.Dec.{leb}
 use lib.ListN.{length}
-use borrow.Author.Tests.{not-true, not-false, le-leb, lt-leb}
+use borrow.Author.Tests.{not-true, not-false}
 use Rattle.cells.specs.Cells.{Bytes}
 use Rattle.cells.specs.Decides.{Decides, All}
-use Rattle.cells.proofs.DecidesLaws.{accept, refuse, decides-map}
+use Rattle.cells.proofs.DecidesLaws.{accept, refuse, decides-map, decides-le}
 use Rattle.nodes.specs.Nodes.{cols, Room}
 use Rattle.nodes.specs.declared.Shape.{Shape}
 use Rattle.pool.specs.Carries.{Pooled}
@@ -26,14 +25,6 @@ use Rattle.store.proofs.PooledLaws.{pooled-places, bytes-narrow, nodes-cool, co
 use Rattle.store.proofs.HoldsLaws.{limits-shown, holds-limits, holds-held, room-for}
 use Rattle.soundness.specs.declared.Checked.the-variants.{Sound as Sound·, Damaged}
 use Rattle.soundness.specs.Checks.{Shaped, Few, Cool, Checks}
-
--- a test of the order of two numbers decides what comes to it
-decides-le : {P : Type 0} (a b : ℕ) → (a ≤ b → P) → (P → a ≤ b) → Decides P (leb a b)
-decides-le a b to from = decides-map to from (order (decLe a b))
-  where
-    order : Dec (a ≤ b) → Decides (a ≤ b) (leb a b)
-    order (yes h) = rw (le-leb a b h) (accept h)
-    order (no n) = rw (lt-leb a b (omega arith)) (refuse n)
 
 -- ---- limits
 

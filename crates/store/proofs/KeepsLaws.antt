@@ -8,12 +8,12 @@ use lib.ListN.{length, getD}
 use Rattle.nodes.specs.Nodes.{Head, Value, Prev, Freq, cols, SetsField, GetsField}
 use Rattle.nodes.specs.declared.Shape.{Shape}
 use Rattle.nodes.proofs.NodesLaws.{room-kept}
-use Rattle.nodes.proofs.OverLaws.{over-at}
-use Rattle.lists.specs.Ring.{Among, Last}
+use Rattle.cells.specs.Members.{Among}
+use Rattle.lists.specs.Ring.{Last}
 use Rattle.lists.proofs.ListsLaws.{lists-tail, lists-once}
 use Rattle.pool.specs.Carries.{listsOf, Pooled, Aside, LiveList, CanMove, Moved, CanRelease, Released, CanFill, Filled}
 use Rattle.pool.proofs.CarriesLaws.{carries-view}
-use Rattle.pool.proofs.PoolLaws.{freq-pooled, value-pooled, value-lists, value-aside, pooled-length, pooled-node, can-fill}
+use Rattle.pool.proofs.PoolLaws.{freq-aside, freq-pooled, value-pooled, value-lists, value-aside, pooled-length, pooled-node, can-fill}
 use Rattle.rules.specs.declared.GuestBlock.{GuestBlock}
 use Rattle.rules.specs.State.{Entry, State, Queue, Small, Main, withFreq, revalue, queueOf, setQueue, setGhosts, pushTo, putAt, residents}
 use Rattle.rules.proofs.PartsLaws.{length-total}
@@ -215,9 +215,6 @@ module _ {z : Shape} {s s′ : List ℕ} (k : Keeps z s) (n : length s′ ≡ le
 
   pub pushed-front : {g v x : ℕ} → Filled z s s′ ghostsNo g v x → PushedFront z s s′ g
   pushed-front {g} {v} {x} m = record { becomes = becomes (m .pooled) (m .aside) (filled-ghost z s s′ g v x (k .pooled) m) }
-
-  freq-aside : {x v : ℕ} → SetsField z s s′ Freq x v → Aside (cols z s) (cols z s′)
-  freq-aside w = record { limits = λ i h. rw (w .columns, over-at); rest = rw (w .columns, over-at) }
 
   pub freq-set : {x v : ℕ} → SetsField z s s′ Freq x v → FreqSet z s s′ x v
   freq-set {x} {v} w =

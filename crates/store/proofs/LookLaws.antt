@@ -10,14 +10,14 @@ use lib.ListN.{getD}
 use borrow.Author.Tests.{eq-eqb, ne-eqb}
 use Rattle.nodes.specs.Nodes.{Key, Queue as Tag, Cols, cols, GetsField}
 use Rattle.nodes.specs.declared.Shape.{Shape}
-use Rattle.lists.specs.Ring.{Among}
+use Rattle.cells.specs.Members.{Among}
 use Rattle.key_index.specs.Stored.{Hit, Miss, IsFound}
 use Rattle.key_index.specs.declared.Found.{Found}
 use Rattle.key_index.specs.declared.Found.the-variants.{At, Nothing}
 use Rattle.pool.specs.Carries.{listsOf, Pooled, LiveList}
 use Rattle.pool.proofs.CarriesLaws.{lives-kind, lives-among, among-miss}
 use Rattle.rules.specs.Parts.{bit, total, found, splitBy}
-use Rattle.rules.specs.State.{Queue, Small, keyIs, places, here}
+use Rattle.rules.specs.State.{Queue, Small, keyIs, places}
 use Rattle.rules.proofs.PartsLaws.{total-mid}
 use Rattle.rules.proofs.EngineLaws.{place-is, place-none, split-is}
 use Rattle.store.specs.declared.QueueKind.{QueueKind}

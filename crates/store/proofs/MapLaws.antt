@@ -6,7 +6,7 @@ use mathlib.Core.List.{List, [], _∷_, _++_, map}
 use Prim.Native.Nat.{ℕ, suc, _+_, _≤_}
 use native.Mathlib.Omega.{arith}
 use lib.ListN.{length}
-use Rattle.lists.specs.Ring.{Every, Out, Among}
+use Rattle.cells.specs.Members.{Every, Out, Among}
 use Rattle.rules.specs.Parts.{total}
 use Rattle.rules.proofs.PartsLaws.{total-mid}
 

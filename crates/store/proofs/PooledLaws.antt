@@ -13,8 +13,8 @@ use Rattle.cells.specs.Cells.{Bytes}
 use Rattle.nodes.specs.Nodes.{Key, Value, Queue as Tag, Freq, cols}
 use Rattle.nodes.specs.declared.Shape.{Shape}
 use Rattle.nodes.proofs.NodesLaws.{cols-lt}
-use Rattle.lists.specs.Ring.{Every, Out, Among}
-use Rattle.lists.proofs.EveryLaws.{every-append, every-less}
+use Rattle.cells.specs.Members.{Every, Out, Among}
+use Rattle.cells.proofs.MembersLaws.{every-append, every-less}
 use Rattle.lists.proofs.ListsLaws.{lists-once, lists-place}
 use Rattle.pool.specs.Carries.{listsOf, Pooled, LiveList}
 use Rattle.pool.proofs.CarriesLaws.{every-among, among-tag, among-once}

@@ -3,7 +3,7 @@
 use mathlib.Core.Path.{_≡_, refl, ap, ap₂, _∙_}
 use mathlib.Core.Logic.{_≢_}
 use mathlib.Core.List.{List, [], _∷_, _++_, map}
-use Prim.Native.Nat.{ℕ, _+_, _<_}
+use Prim.Native.Nat.{ℕ, _<_}
 use native.Mathlib.Omega.{arith}
 use lib.ListN.{getD, set}
 use lib.Seq.{getD-set-same, getD-set-other}
@@ -11,7 +11,7 @@ use Rattle.nodes.specs.Nodes.{Head, Key, Value, Next, Freq, Cols, cols, SetsFie
 use Rattle.nodes.specs.declared.Shape.{Shape}
 use Rattle.nodes.proofs.NodesLaws.{length-cols}
 use Rattle.nodes.proofs.OverLaws.{over-at}
-use Rattle.lists.specs.Ring.{Out}
+use Rattle.cells.specs.Members.{Out}
 use Rattle.lists.specs.Pool.{view}
 use Rattle.lists.proofs.ListsLaws.{lists-view, lists-node, lists-once, lists-elsewhere}
 use Rattle.pool.specs.Carries.{Carries, listsOf, Pooled, Aside, Alike, Moved, Released, Filled}

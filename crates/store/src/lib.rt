@@ -2,7 +2,7 @@
 // said in terms of the state that the store holds. The crates above call no crate below this one, and see no field: they hand over and get guest and
 // physical blocks, which are different types down to the field that is written.
 ghost use mathlib.Core.Path.{_≡_};
-ghost use Prim.Native.Nat.{_+_, _≤_, _<_};
+ghost use Prim.Native.Nat.{_≤_, _<_};
 ghost use lib.ListN.{length};
 ghost use Rattle.cells.specs.Decides.{Decides};
 ghost use Rattle.nodes.specs.Nodes.{Room};

@@ -5,6 +5,7 @@
 #   make test [STRICT=1]   the gate: everything; with STRICT=1 a missing original or valgrind is a failure, not a note
 #   make library           the archive that hosts link, target/staticlib/libmapcache.a
 #   make replay            the replay program, target/bin/replay
+#   make tidy              nothing unused, no long line, no name with two meanings, one door to the store (tools/tidy)
 #   make store-example     the bytes that docs/STORE.md shows are those that the library writes
 #   make clean             remove target/, and with it what is proved
 #   make help              this list
@@ -51,7 +52,7 @@ include mk/programs.mk
 # rt takes one command at a time.
 .NOTPARALLEL:
 
-.PHONY: all help clean library replay run test store-example
+.PHONY: all help clean library replay run test tidy store-example
 
 help:
 	@sed -n 's/^#   \(make.*\)/  \1/p' Makefile mk/*.mk
@@ -83,9 +84,13 @@ store-example: $(ARCHIVE) $(HEADER)
 	@$(HOST)/trace_b > $(HOST)/trace_b.store
 	@python3 tests/store/compare.py docs/STORE.md $(HOST)/trace_b.store
 
+tidy:
+	@tools/tidy
+	@python3 tests/tools/test_tidy.py
+
 # rt ci comes last: it begins by deleting target/, and its last line is the gate's.
 test:
 	rt fmt --check
-	$(MAKE) --no-print-directory rust-lint host-test constants store-example replay-streams replay-cases fuzz-gate \
+	$(MAKE) --no-print-directory tidy rust-lint host-test constants store-example replay-streams replay-cases fuzz-gate \
 		differential-gate
 	rt ci

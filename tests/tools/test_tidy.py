@@ -196,6 +196,13 @@ class Tidy(unittest.TestCase):
         self.assertEqual(self.report({**twice, "tools/names.txt": "Order -- the code's form\n"}), (0, ["tidy: ok"]))
         self.expect({"tools/names.txt": "Order -- the code's form\n"}, "tools/names.txt:1: `Order` is not defined twice")
 
+    def test_a_crate_above_the_door_names_one_behind_it(self):
+        """`top` stands above `store` once crates.txt says so, and then may not name `pool`."""
+        listed = {"crates.txt": ("top: low\n", "store:\ntop: low store\n")}
+        added = "\n// As pool::fill does.\nfn five() -> u8 {\n    5\n}\n\n#[no_mangle]\npub extern \"C\" fn six() -> u8 {\n    five() + 1\n}\n"
+        self.assertEqual(self.report({"crates/top/src/lib.rt": added})[0], 0)
+        self.expect({**listed, "crates/top/src/lib.rt": added}, "crates/top/src/lib.rt:8: `pool::` is named above `store`")
+
 
 if __name__ == "__main__":
     unittest.main()

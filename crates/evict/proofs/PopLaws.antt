@@ -28,10 +28,7 @@ use Rattle.evict.specs.Evicts.{coolTo, StaysTail, PopsTail}
 pub cool-small : (q : QueueKind) (f : ℕ) → q ≡ Small· → 0 ≡ coolTo (queueKind q) f
 cool-small q f e = rw e
 
-pub cool-none : (q : QueueKind) (f : ℕ) → q ≡ Main· → f ≡ 0 → 0 ≡ coolTo (queueKind q) f
-cool-none q f e h = rw (e, h)
-
-pub cool-main : (q : QueueKind) (f : ℕ) → q ≡ Main· → (f ≡ 0 → ⊥) → f - 1 ≡ coolTo (queueKind q) f
+pub cool-main : (q : QueueKind) (f : ℕ) → q ≡ Main· → 0 < f → f - 1 ≡ coolTo (queueKind q) f
 cool-main q f e h = let g : f - 1 ≡ pred f = omega arith in rw e g
 
 cool-is : (q : Queue) (e : Entry) → withFreq (coolTo q (e .freq)) e ≡ cool q e

@@ -53,20 +53,15 @@ fn victim(s: &[u8], z: Shape) -> QueueKind
     QueueKind::Main
 }
 
-// The frequency of an entry that goes back: 0 from Small, one less from Main.
+// The frequency, above 0, of an entry that goes back becomes 0 from Small, and one less from Main.
 fn cooled(q: QueueKind, freq: usize) -> usize
-    requires { ⌜ freq < 256 ⌝ }
+    requires { ⌜ (0 < freq) × (freq < 256) ⌝ }
     ensures { λ r. ⌜ r ≡ coolTo (queueKind q) freq ⌝ }
     ensures { λ r. ⌜ r < 256 ⌝ }
 {
     match q {
         QueueKind::Small => 0,
-        QueueKind::Main => {
-            if freq == 0 {
-                return 0;
-            }
-            freq - 1
-        }
+        QueueKind::Main => freq - 1,
     }
 }
 

@@ -1,7 +1,7 @@
 -- `evict::cooled` meets its contract.
 -- Assumes nothing.
 use borrow.Author.Needs.{needs}
-use Rattle.evict.proofs.PopLaws.{cool-small, cool-main, cool-none}
+use Rattle.evict.proofs.PopLaws.{cool-small, cool-main}
 use Rattle.evict.proofs.cooled.Statement.{statement}
 use Rattle.evict.proofs.cooled.Tie as tie
 
@@ -11,7 +11,6 @@ cooled-spec =
     (tie.spec
     (λ c. search needs)
     (λ c. search needs)
-    (λ c. (search cool-none, search needs))
     (λ c. search needs)
     (λ c. (search cool-small, search needs))
     (λ c. (search cool-main, search needs)))

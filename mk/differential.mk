@@ -3,7 +3,7 @@
 #   make differential-gate                       the comparison that `make test` makes: a fixed seed
 #   make differential SEED=7 REQUESTS=100000000  any seed, any number of requests from 1,000,000 on
 #   make departures                              the tables of docs/DIFFERENCES.md, each row tried
-#   make record                                  write crates/recorded/data anew from the original
+#   make record                                  write crates/recorded/data and crates/ghosts' stdin and stdout anew from the original
 #   make bench                                   the tables of docs/SPEED.md
 #
 # Where the original is not there the gate goes on, since its recorded answers are compared without it. The other targets
@@ -11,6 +11,7 @@
 
 GATE_SEED := 1
 GATE_REQUESTS := 4000000
+GHOSTS := crates/ghosts
 RECORDED_CASES := $(addprefix $(RECORDED)/,few.bin many.bin most.bin)
 
 DIFFERENTIAL := $(CARGO) run $(CARGO_FLAGS) -p differential --bin differential --
@@ -22,7 +23,7 @@ BENCH := $(CARGO) run $(filter-out --release,$(CARGO_FLAGS)) --profile timed -p 
 
 ifneq ($(HAVE_ORIGINAL),)
 differential-gate: $(ARCHIVE)
-	@$(RECORD) check $(RECORDED)
+	@$(RECORD) check $(RECORDED) $(GHOSTS)
 	@$(DIFFERENTIAL) replay $(RECORDED_CASES)
 	@$(DIFFERENTIAL) departures
 	@$(DIFFERENTIAL) run $(GATE_SEED) $(GATE_REQUESTS)
@@ -43,7 +44,7 @@ departures: need-original $(ARCHIVE)
 
 record: need-original $(ARCHIVE)
 	@mkdir -p $(RECORDED)
-	@$(RECORD) write $(RECORDED)
+	@$(RECORD) write $(RECORDED) $(GHOSTS)
 
 bench: need-original $(ARCHIVE)
 	@test '$(STRICT)' != 1 || command -v valgrind > /dev/null || { echo 'bench: there is no valgrind to count instructions' >&2; exit 1; }

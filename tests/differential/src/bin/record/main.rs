@@ -1,5 +1,7 @@
-//! Records answers of the original: cases of settings and one call's requests, with the replies that the original gives.
-//! A program of the gate replays them on the proved calls, so that the comparison needs no Rust.
+//! Records answers of the original: cases of settings and one call's requests with the replies that it gives, and what its
+//! ghost list answers by itself. Programs of the gate replay them on the proved calls, so that the comparison needs no Rust.
+
+mod ghosts;
 
 use common::{Random, program};
 use differential::cases::{self, Case};
@@ -8,55 +10,65 @@ use differential::traffic::Traffic;
 use mapcache::{MOST_REQUEST_BYTES, Request, Settings};
 use original::driver::Original;
 use std::fs;
-use std::path::Path;
+use std::path::{Path, PathBuf};
 use std::process::ExitCode;
 
 const USAGE: &str = "usage:
-  record write FOLDER   write the files of recorded answers to FOLDER
-  record check FOLDER   say whether the files in FOLDER are what the original answers";
+  record write CASES GHOSTS   write the cases to the folder CASES, and what the ghost list answers to the folder GHOSTS
+  record check CASES GHOSTS   say whether the files there are what the original answers";
 
 /// The program that replays the cases has a reply buffer of this length.
 const REPLY_BUFFER: usize = 65_536;
 const SEED: u64 = 1;
 
 struct File {
-    name: &'static str,
-    cases: Vec<Case>,
+    path: PathBuf,
+    bytes: Vec<u8>,
+    holds: String,
 }
 
 fn main() -> ExitCode {
     program::with_words("record", |words| match words {
-        ["write", folder] => files().iter().try_for_each(|file| write(Path::new(folder), file)),
-        ["check", folder] => files().iter().try_for_each(|file| check(Path::new(folder), file)),
+        ["write", cases, ghosts] => files(Path::new(cases), Path::new(ghosts)).iter().try_for_each(write),
+        ["check", cases, ghosts] => files(Path::new(cases), Path::new(ghosts)).iter().try_for_each(check),
         _ => Err(USAGE.to_string()),
     })
 }
 
-fn write(folder: &Path, file: &File) -> Result<(), String> {
-    let path = folder.join(file.name);
-    let bytes = cases::write(&file.cases);
-    fs::write(&path, &bytes).map_err(|error| format!("{}: {error}", path.display()))?;
-    println!("{}: {} cases, {} bytes", path.display(), file.cases.len(), bytes.len());
+fn write(file: &File) -> Result<(), String> {
+    let path = file.path.display();
+    fs::write(&file.path, &file.bytes).map_err(|error| format!("{path}: {error}"))?;
+    println!("{path}: {}, {} bytes", file.holds, file.bytes.len());
     Ok(())
 }
 
-fn check(folder: &Path, file: &File) -> Result<(), String> {
-    let path = folder.join(file.name);
-    let bytes = fs::read(&path).map_err(|error| format!("{}: {error}", path.display()))?;
-    if bytes != cases::write(&file.cases) {
-        return Err(format!("{} is not what the original answers: run `make record`", path.display()));
+fn check(file: &File) -> Result<(), String> {
+    let path = file.path.display();
+    let bytes = fs::read(&file.path).map_err(|error| format!("{path}: {error}"))?;
+    if bytes != file.bytes {
+        return Err(format!("{path} is not what the original answers: run `make record`"));
     }
-    println!("{}: {} cases are what the original answers", path.display(), file.cases.len());
+    println!("{path}: {} are what the original answers", file.holds);
     Ok(())
 }
 
-fn files() -> [File; 3] {
+fn files(cases: &Path, ghosts: &Path) -> Vec<File> {
     let mut random = Random::new(SEED);
-    [
-        File { name: "few.bin", cases: few(&mut random) },
-        File { name: "many.bin", cases: many(&mut random) },
-        File { name: "most.bin", cases: most(&mut random) },
-    ]
+    let of_cases = |name: &str, of: Vec<Case>| File {
+        path: cases.join(name),
+        bytes: cases::write(&of),
+        holds: format!("{} cases", of.len()),
+    };
+    let mut files = vec![
+        of_cases("few.bin", few(&mut random)),
+        of_cases("many.bin", many(&mut random)),
+        of_cases("most.bin", most(&mut random)),
+    ];
+    let recorded = ghosts::recorded(&mut Random::new(SEED));
+    let holds = recorded.to_string();
+    files.push(File { path: ghosts.join("stdin"), bytes: recorded.input, holds: holds.clone() });
+    files.push(File { path: ghosts.join("stdout"), bytes: recorded.output.into_bytes(), holds });
+    files
 }
 
 /// Short runs at small capacities, where most requests meet a limit: every Small limit with few ghosts, and limits that

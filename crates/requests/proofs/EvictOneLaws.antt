@@ -27,7 +27,9 @@ use Rattle.evict.specs.declared.Popped.the-variants.{Back, Cold}
 use Rattle.evict.specs.Evicts.{pushedOf, PopsTail, Makes}
 use Rattle.evict.proofs.PopLaws.{cold-wanted}
 use Rattle.requests.specs.declared.Spoken.{Spoken}
-use Rattle.requests.specs.Answers.{Answers, Comes, Starts, firstOf, secondOf}
+use Rattle.requests.specs.declared.Handing.{Handing}
+use Rattle.requests.specs.declared.Handing.the-variants.{Out, Back as Stays}
+use Rattle.requests.specs.Answers.{Answers, Comes, Starts, firstOf, PopsOut, secondOf}
 use Rattle.requests.proofs.KeyLaws.{answers, becomes-same, comes-as, comes-then}
 
 -- ---- a pop
@@ -43,16 +45,48 @@ cold-out {z} {s} {s₂ = s₂} {q = q} p {x} {k} {v} e m₀ =
       replies = ap (λ (y : Entry). EX (y .key) (y .value) ∷ []) (sym (c .pair));
     }
 
+-- neither constructor is the other
+out-not : {k : GuestBlock} {v : PhysicalBlock} → Out k v ≡ Stays → ⊥
+out-not e = let z : _≡_ {A = ℕ} 0 1 = cc in omega arith
+
+same-pair : {k l : GuestBlock} {v w : PhysicalBlock} → Out k v ≡ Out l w → (k ≡ l) × (v ≡ w)
+same-pair e = (cc, cc)
+
+module _ {z : Shape} {s s₁ : List ℕ} {q : Queue} {r : Popped} (p : PopsTail z s s₁ q r) where
+  pub out-back : r ≡ Back → PopsOut z s s₁ q Stays
+  out-back e =
+      record {
+        before = p .before;
+        entry = p .entry;
+        tail-is = p .tail-is;
+        cold = λ k v n. absurd (out-not (sym n));
+        out = λ k v n. absurd (out-not (sym n));
+        went = λ i. p .went e;
+      }
+
+  pub out-cold : {x : ℕ} {k : GuestBlock} {v : PhysicalBlock} → r ≡ Cold x k v → {s₂ : List ℕ} → EntryRemoved z s₁ s₂ q x → PopsOut z s s₂ q (Out k v)
+  out-cold {k = k} {v = v} e {s₂} m =
+      record {
+        before = p .before;
+        entry = p .entry;
+        tail-is = p .tail-is;
+        cold = λ l w n. cold-wanted p e;
+        out = λ l w n. ap-pair l w (same-pair n);
+        went = λ i. absurd (out-not i);
+      }
+    where
+      ap-pair : (l : GuestBlock) (w : PhysicalBlock) → (k ≡ l) × (v ≡ w) → Comes z s s₂ (hands q (p .before) (p .entry) (stateIn z s)) (told (Handed l w) ∷ [])
+      ap-pair l w n = rw (← n .0, ← n .1) (cold-out p e m)
+
 -- ---- the second
 
-module _ {z : Shape} {s s₁ : List ℕ} {r : Popped} (p : PopsTail z s s₁ Main r) where
-  pub second-back : r ≡ Back → Comes z s s₁ (secondOf (stateIn z s)) (told Miss ∷ [])
+module _ {z : Shape} {s s₁ : List ℕ} {r : Handing} (p : PopsOut z s s₁ Main r) where
+  pub second-back : r ≡ Stays → Comes z s s₁ (secondOf (stateIn z s)) (told Miss ∷ [])
   second-back e =
       comes-as (second-pops (stateIn z s) (p .before) (p .entry) (p .tail-is)) (rw (p .went e .warm) (record { becomes = p .went e .becomes; replies = refl }))
 
-  pub second-out : {x : ℕ} {k : GuestBlock} {v : PhysicalBlock} → r ≡ Cold x k v → {s₂ : List ℕ} → EntryRemoved z s₁ s₂ Main x
-      → Comes z s s₂ (secondOf (stateIn z s)) (told (Handed k v) ∷ [])
-  second-out e m = comes-as (second-pops (stateIn z s) (p .before) (p .entry) (p .tail-is)) (rw (cold-wanted p e) (cold-out p e m))
+  pub second-out : {k : GuestBlock} {v : PhysicalBlock} → r ≡ Out k v → Comes z s s₁ (secondOf (stateIn z s)) (told (Handed k v) ∷ [])
+  second-out {k} {v} e = comes-as (second-pops (stateIn z s) (p .before) (p .entry) (p .tail-is)) (rw (p .cold k v e) (p .out k v e))
 
 -- ---- the first
 
@@ -63,17 +97,16 @@ module _ {z : Shape} {s : List ℕ} {n : ℕ} (e : n ≡ length (stateIn z s .sm
   pub starts-small : (n ≡ 0 → ⊥) → Starts z s Small
   starts-small h = record { first = rw (null-some (stateIn z s .small) (λ m. h (e ∙ m))) }
 
-module _ {z : Shape} {s s₁ : List ℕ} {q : Queue} {r : Popped} (p : PopsTail z s s₁ q r) where
+module _ {z : Shape} {s s₁ : List ℕ} {q : Queue} {r : Handing} (p : PopsOut z s s₁ q r) where
   first-is : firstQueue (stateIn z s) ≡ q
       → firstOf (stateIn z s) ≡ cond (wanted (p .entry)) (secondOf (back q (p .before) (p .entry) (stateIn z s))) (hands q (p .before) (p .entry) (stateIn z s))
   first-is f = first-pops (stateIn z s) q (p .before) (p .entry) f (p .tail-is)
 
-  pub first-out : Starts z s q → {x : ℕ} {k : GuestBlock} {v : PhysicalBlock} → r ≡ Cold x k v → {s₂ : List ℕ} → EntryRemoved z s₁ s₂ q x
-      → Comes z s s₂ (firstOf (stateIn z s)) (told (Handed k v) ∷ [])
-  first-out f e m = comes-as (first-is (f .first)) (rw (cold-wanted p e) (cold-out p e m))
+  pub first-out : Starts z s q → {k : GuestBlock} {v : PhysicalBlock} → r ≡ Out k v → Comes z s s₁ (firstOf (stateIn z s)) (told (Handed k v) ∷ [])
+  first-out f {k} {v} e = comes-as (first-is (f .first)) (rw (p .cold k v e) (p .out k v e))
 
   -- it went back to Main
-  module _ (e : r ≡ Back) where
+  module _ (e : r ≡ Stays) where
     pub back-held : Held z s → Held z s₁
     back-held h =
         let b = p .went e .becomes in

@@ -10,7 +10,7 @@ ghost use Rattle.store.specs.Holds.{stateIn, Keeps, Held};
 ghost use Rattle.store.specs.Seats.{queueKind};
 ghost use Rattle.store.specs.Looks.{Lacks};
 ghost use Rattle.wire.specs.Wire.{asked, told};
-ghost use Rattle.requests.specs.Answers.{alone, Answers, Comes, Arrives, Starts, firstOf, secondOf, Drained};
+ghost use Rattle.requests.specs.Answers.{alone, Answers, Comes, Arrives, Starts, firstOf, PopsOut, secondOf, Drained};
 use evict::Popped;
 use evict::Pushed;
 use rules::GuestBlock;
@@ -24,6 +24,12 @@ use wire::Reply;
 pub struct Spoken {
     pub pushed: Pushed,
     pub closing: Reply,
+}
+
+// What one of evict_one's own pops does: the pair is handed out, or it went back to Main's head.
+enum Handing {
+    Out(GuestBlock, PhysicalBlock),
+    Back,
 }
 
 // The answer where no pair was pushed out.
@@ -134,18 +140,30 @@ fn insert(s: &mut [u8], z: Shape, k: GuestBlock, v: PhysicalBlock) -> Spoken
     }
 }
 
-// The second pop, from Main, which has the entry that the first one sent back. A pair that is handed out becomes no ghost.
+// One of evict_one's own pops, from a queue that is not empty: a pair that leaves is handed out and becomes no ghost.
+fn pop_out(s: &mut [u8], z: Shape, q: QueueKind) -> Handing
+    requires { ⌜ Held z (now s) × (1 ≤ length (queueOf (queueKind q) (stateIn z (now s)))) ⌝ }
+    ensures { λ r. ⌜ PopsOut z (now (s .entry)) (now (s .exit)) (queueKind q) r ⌝ }
+{
+    let popped = evict::pop_tail(s, z, q);
+    match popped {
+        Popped::Back => Handing::Back,
+        Popped::Cold(x, k, v) => {
+            store::remove_at(s, z, q, x);
+            Handing::Out(k, v)
+        }
+    }
+}
+
+// The second pop, from Main, which has the entry that the first one sent back.
 fn second(s: &mut [u8], z: Shape) -> Reply
     requires { ⌜ Held z (now s) × (1 ≤ length (stateIn z (now s) .main)) ⌝ }
     ensures { λ r. ⌜ Comes z (now (s .entry)) (now (s .exit)) (secondOf (stateIn z (now (s .entry)))) (told r ∷ []) ⌝ }
 {
-    let popped = evict::pop_tail(s, z, QueueKind::Main);
-    match popped {
-        Popped::Back => Reply::Miss,
-        Popped::Cold(x, k, v) => {
-            store::remove_at(s, z, QueueKind::Main, x);
-            Reply::Handed(k, v)
-        }
+    let handing = pop_out(s, z, QueueKind::Main);
+    match handing {
+        Handing::Out(k, v) => Reply::Handed(k, v),
+        Handing::Back => Reply::Miss,
     }
 }
 
@@ -154,13 +172,10 @@ fn first(s: &mut [u8], z: Shape, q: QueueKind) -> Reply
     requires { ⌜ Held z (now s) × Starts z (now s) (queueKind q) × (1 ≤ length (queueOf (queueKind q) (stateIn z (now s)))) ⌝ }
     ensures { λ r. ⌜ Comes z (now (s .entry)) (now (s .exit)) (firstOf (stateIn z (now (s .entry)))) (told r ∷ []) ⌝ }
 {
-    let popped = evict::pop_tail(s, z, q);
-    match popped {
-        Popped::Back => second(s, z),
-        Popped::Cold(x, k, v) => {
-            store::remove_at(s, z, q, x);
-            Reply::Handed(k, v)
-        }
+    let handing = pop_out(s, z, q);
+    match handing {
+        Handing::Out(k, v) => Reply::Handed(k, v),
+        Handing::Back => second(s, z),
     }
 }
 

@@ -1,7 +1,6 @@
 -- `requests::first` meets its contract.
 -- Assumes nothing.
 use borrow.Author.Needs.{needs}
-use Rattle.evict.proofs.PopLaws.{cold-keeps, cold-seated}
 use Rattle.requests.proofs.EvictOneLaws.{first-out, first-back, back-held, back-some}
 use Rattle.requests.proofs.first.Statement.{statement}
 use Rattle.requests.proofs.first.Tie as tie
@@ -12,10 +11,9 @@ first-spec =
     (tie.spec
     (λ c κs. search needs)
     (λ c. search needs)
+    (λ c. search needs)
     (λ c κs. (search back-held, search back-some))
     (λ c. search needs)
-    (λ c κs. (search cold-keeps, search cold-seated))
+    (λ c. search first-out)
     (λ c. search needs)
-    (λ c. search first-back)
-    (λ c. search needs)
-    (λ c. search first-out))
+    (λ c. search first-back))

@@ -1,7 +1,6 @@
 -- `requests::second` meets its contract.
 -- Assumes nothing.
 use borrow.Author.Needs.{needs}
-use Rattle.evict.proofs.PopLaws.{cold-keeps, cold-seated}
 use Rattle.requests.proofs.EvictOneLaws.{second-out, second-back}
 use Rattle.requests.proofs.second.Statement.{statement}
 use Rattle.requests.proofs.second.Tie as tie
@@ -13,8 +12,7 @@ second-spec =
     (λ c κs. search needs)
     (λ c. search needs)
     (λ c. search needs)
-    (λ c κs. (search cold-keeps, search cold-seated))
     (λ c. search needs)
-    (λ c. search second-back)
+    (λ c. search second-out)
     (λ c. search needs)
-    (λ c. search second-out))
+    (λ c. search second-back))

@@ -2,7 +2,7 @@
 """Header, wrapper and tools have the constants of the proved code, and name the same refusals.
 
 The proved code's constants are what the program `constants` prints, crates/constants/stdout: `rt check` holds it to that
-file. HEADER names the header, WRAPPER is the command that prints the wrapper's constants.
+file. The version is what tools/version reads off the source, so that no file repeats it. HEADER names the header, WRAPPER is the command that prints the wrapper's constants.
 
 usage: HEADER=mapcache.h WRAPPER='cargo run ..' python3 test_constants.py
 """
@@ -86,6 +86,7 @@ class Constants(unittest.TestCase):
     @classmethod
     def setUpClass(cls):
         cls.proved = constants_of(read("crates/constants/stdout"))
+        cls.proved["version"] = output_of("tools/version").strip()
 
     def compare(self, place, constants, names):
         self.assertEqual(set(constants), names, f"the names in {place}")

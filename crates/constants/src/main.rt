@@ -1,5 +1,6 @@
 // The numbers that the cache's own type and the crates below it fix, a name and a value to a line, ratios by the bits of the double. Header, wrapper and
-// tools are compared with what this prints (`make constants`), so that each number stands once in the proved code.
+// tools are compared with what this prints (`make constants`), so that each number stands once in the proved code. The version is not among them: it would
+// stand a second time, in what this is to print.
 use libc::STDOUT_FILENO;
 use s3_fifo::S3FifoCache;
 
@@ -19,9 +20,6 @@ fn ratio(name: &[u8], value: f64) {
 }
 
 fn main() {
-    io::write_all(STDOUT_FILENO, b"version ");
-    io::write_all(STDOUT_FILENO, &S3FifoCache::VERSION);
-    io::write_all(STDOUT_FILENO, b"\n");
     line(b"max_freq ", S3FifoCache::MAX_FREQ as u64);
     ratio(b"default_small_ratio ", S3FifoCache::DEFAULT_SMALL_RATIO);
     ratio(b"default_ghost_ratio ", S3FifoCache::DEFAULT_GHOST_RATIO);

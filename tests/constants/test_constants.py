@@ -2,7 +2,8 @@
 """Header, wrapper and tools have the constants of the proved code, and name the same refusals.
 
 The proved code's constants are what the program `constants` prints, crates/constants/stdout: `rt check` holds it to that
-file. The version is what tools/version reads off the source, so that no file repeats it. HEADER names the header, WRAPPER is the command that prints the wrapper's constants.
+file. The version is what tools/version reads off the source, so that no file repeats it. HEADER names the header, WRAPPER is
+the command that prints the wrapper's constants.
 
 usage: HEADER=mapcache.h WRAPPER='cargo run ..' python3 test_constants.py
 """

@@ -16,6 +16,7 @@ all: library replay
 # it). Where it is not there, or there is no valgrind, what needs it says so and is left out; with STRICT=1 that is a failure.
 ORIGINAL ?= ../shared/docs/src
 STRICT ?=
+HOSTS ?=
 PREFIX ?= /usr/local
 DESTDIR ?=
 TRACE ?= examples/first.trace
@@ -40,10 +41,13 @@ FILL_IN := sed -e 's|@VERSION@|$(VERSION)|' -e 's|@VERSION_MAJOR@|$(word 1,$(VER
 
 CFLAGS := -std=c11 -Wall -Wextra -Wpedantic -Werror -O2 -g -I$(INCLUDE)
 HAVE_ORIGINAL := $(wildcard $(ORIGINAL)/src/policy/s3_fifo.rs)
-CARGO := ORIGINAL='$(abspath $(ORIGINAL))' MAPCACHE_LIB_DIR='$(abspath $(dir $(ARCHIVE)))' cargo
+CARGO_HERE := ORIGINAL='$(abspath $(ORIGINAL))' MAPCACHE_LIB_DIR='$(abspath $(dir $(ARCHIVE)))' cargo
 CARGO_FLAGS := --quiet --release --offline --locked
 RECORDED := crates/recorded/data
 
+include mk/machine.mk
+# Builds what is run; CARGO_HERE only looks at sources.
+CARGO := $(CROSS) $(CARGO_HERE)
 include mk/host.mk
 include mk/install.mk
 include mk/differential.mk
@@ -52,7 +56,7 @@ include mk/programs.mk
 # rt takes one command at a time.
 .NOTPARALLEL:
 
-.PHONY: all help clean library replay run test tidy store-example
+.PHONY: all help clean library replay run test hosts-left-out tidy store-example
 
 help:
 	@sed -n 's/^#   \(make.*\)/  \1/p' Makefile mk/*.mk
@@ -80,7 +84,7 @@ $(HEADER): host/mapcache.h.in $(VERSION_SOURCES) | $(INCLUDE)
 
 # The bytes that docs/STORE.md shows are the bytes that the library writes.
 store-example: $(ARCHIVE) $(HEADER)
-	@gcc $(CFLAGS) tests/store/trace_b.c $(ARCHIVE) -o $(HOST)/trace_b
+	@$(CC) $(CFLAGS) tests/store/trace_b.c $(ARCHIVE) -o $(HOST)/trace_b
 	@$(HOST)/trace_b > $(HOST)/trace_b.store
 	@python3 tests/store/compare.py docs/STORE.md $(HOST)/trace_b.store
 
@@ -88,9 +92,16 @@ tidy:
 	@tools/tidy
 	@python3 tests/tools/test_tidy.py
 
+# What is run outside the prover.
+RUN_OUTSIDE := machine host-test constants store-example replay-streams replay-cases fuzz-gate differential-gate
+
 # rt ci comes last: it begins by deleting target/, and its last line is the gate's.
+# HOSTS=none is for a machine of another processor that cannot run hosts: the proofs are the same there.
 test:
 	rt fmt --check
-	$(MAKE) --no-print-directory tidy rust-lint host-test constants store-example replay-streams replay-cases fuzz-gate \
-		differential-gate
+	$(MAKE) --no-print-directory tidy rust-lint $(if $(filter none,$(HOSTS)),hosts-left-out,$(RUN_OUTSIDE))
 	rt ci
+
+hosts-left-out:
+	@test -z '$(NATIVE)' || { echo 'HOSTS=none is for machines that are not x86-64' >&2; exit 1; }
+	@echo 'test: $(MACHINE): HOSTS=none leaves out what has to run outside the prover: $(RUN_OUTSIDE)'

@@ -47,5 +47,6 @@ record: need-original $(ARCHIVE)
 	@$(RECORD) write $(RECORDED) $(GHOSTS)
 
 bench: need-original $(ARCHIVE)
+	@test -n '$(NATIVE)' || { echo 'bench: $(MACHINE): times would be those of an emulator' >&2; exit 1; }
 	@test '$(STRICT)' != 1 || command -v valgrind > /dev/null || { echo 'bench: there is no valgrind to count instructions' >&2; exit 1; }
 	@$(BENCH)

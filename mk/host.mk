@@ -10,7 +10,6 @@ GATE_FUZZ_SEED := 1
 GATE_FUZZ_CALLS := 120000
 VALGRIND_CALLS := 300
 
-SANITIZE := -fsanitize=address,undefined -fno-sanitize-recover=all
 FUZZ := $(CARGO) run $(CARGO_FLAGS) -p mapcache-fuzz --
 
 # All Rust of the workspace, as far as it can be built: some of it is made of the original.
@@ -25,7 +24,7 @@ host-test: host-c host-rust host-thin host-tools host-run host-install
 rust-lint: $(ARCHIVE)
 	@cargo fmt --all --check
 	@rustfmt --check --edition 2024 tests/original/src/observe.rs
-	@$(CARGO) clippy $(CARGO_FLAGS) $(RUST) --all-targets -- -D warnings
+	@$(CARGO_HERE) clippy $(CARGO_FLAGS) $(RUST) --all-targets -- -D warnings
 	@! grep -nE 'path = .*(tests|bench)/' host/*/Cargo.toml || { echo 'host/ depends on what is outside it' >&2; exit 1; }
 	@echo 'rust-lint: formatted, and clippy has no warning$(if $(HAVE_ORIGINAL),, (without what is made of the original))'
 
@@ -36,16 +35,17 @@ $(HOST)/example.c: $(HEADER)
 
 # No variables, so that threads may call it side by side; no symbols of others but the C library's mem functions.
 host-c: $(ARCHIVE) $(HEADER) $(HOST)/example.c
-	@! nm $(ARCHIVE) | grep -E ' [bBcCdD] ' || { echo '$(ARCHIVE): these are variables, and mapcache.h says that there are none' >&2; exit 1; }
-	@! nm -u $(ARCHIVE) | grep ' U ' | grep -vE ' U mem(cpy|move|set|cmp)$$' || { echo '$(ARCHIVE): needs more than the mem functions' >&2; exit 1; }
-	@gcc $(CFLAGS) $(HOST)/example.c $(ARCHIVE) -o $(HOST)/example
+	@! $(NM) $(ARCHIVE) | grep -E ' [bBcCdD] ' || { echo '$(ARCHIVE): these are variables, and mapcache.h says that there are none' >&2; exit 1; }
+	@! $(NM) -u $(ARCHIVE) | grep ' U ' | grep -vE ' U mem(cpy|move|set|cmp)$$' || { echo '$(ARCHIVE): needs more than the mem functions' >&2; exit 1; }
+	@$(CC) $(CFLAGS) $(HOST)/example.c $(ARCHIVE) -o $(HOST)/example
 	@test "$$($(HOST)/example)" = '38 bytes: NW 0, then ES 7 70, NW 1' || \
 		{ echo 'host/mapcache.h.in: its example prints something else' >&2; exit 1; }
-	@gcc $(CFLAGS) host/c/test.c $(ARCHIVE) -o $(HOST)/test
+	@$(CC) $(CFLAGS) host/c/test.c $(ARCHIVE) -o $(HOST)/test
 	@$(HOST)/test $(RECORDED)/calls.bin 20000 $(HOST)/trace_d.store
-	@gcc $(CFLAGS) $(SANITIZE) host/c/test.c $(ARCHIVE) -o $(HOST)/test-sanitized
-	@echo 'c host, address and undefined behaviour sanitizers:' && $(HOST)/test-sanitized $(RECORDED)/calls.bin
-	@if command -v valgrind > /dev/null; then \
+	@$(CC) $(CFLAGS) $(SANITIZE) host/c/test.c $(ARCHIVE) -o $(HOST)/test-sanitized
+	@echo 'c host, sanitizers of $(if $(NATIVE),addresses and )undefined behaviour:' && $(HOST)/test-sanitized $(RECORDED)/calls.bin
+	@if test -z '$(NATIVE)'; then echo 'host-c: valgrind cannot look into an emulator: that run is left out'; \
+	elif command -v valgrind > /dev/null; then \
 		echo 'c host, valgrind:' && \
 		valgrind -q --error-exitcode=9 --leak-check=full $(HOST)/test $(RECORDED)/calls.bin $(VALGRIND_CALLS); \
 	else echo 'host-c: there is no valgrind: that run is left out'; test '$(STRICT)' != 1; fi

@@ -101,7 +101,8 @@ class Constants(unittest.TestCase):
             source, program = os.path.join(folder, "constants.c"), os.path.join(folder, "constants")
             with open(source, "w", encoding="utf-8") as file:
                 file.write(C_PROGRAM)
-            output_of("gcc", "-std=c11", "-Wall", "-Wextra", "-Werror", "-I", os.path.dirname(HEADER), source, "-o", program)
+            flags = ["-std=c11", "-Wall", "-Wextra", "-Werror", "-I", os.path.dirname(HEADER)]
+            output_of(os.environ.get("CC", "gcc"), *flags, source, "-o", program)
             constants = constants_of(output_of(program))
         parts = constants.pop("parts")
         self.assertEqual(parts, self.proved["version"].rsplit(".", 1)[0], "the version's first two numbers")

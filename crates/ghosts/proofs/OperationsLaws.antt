@@ -1,9 +1,12 @@
 -- The program's answers are those of the rules, since the ghost list's are; and a list stays one.
 -- Assumes nothing.
-use mathlib.Core.Path.{_≡_, refl, ap, _∙_}
+use mathlib.Core.Path.{_≡_, refl, ap, ap₂, _∙_}
 use mathlib.Core.Bool.{Bool, true, false}
 use mathlib.Core.List.{List}
-use Prim.Native.Nat.{ℕ, _<_}
+use Prim.Native.Nat.{ℕ, _≤_, _<_}
+use lib.ListN.{length}
+use borrow.Author.Tests.{ne-eqb, lt-ltb, le-ltb}
+use Rattle.cells.specs.Cells.{le}
 use Rattle.nodes.specs.declared.Shape.{Shape}
 use Rattle.rules.specs.State.{words}
 use Rattle.rules.specs.declared.GuestBlock.{GuestBlock}
@@ -15,11 +18,40 @@ use Rattle.ghost_list.specs.Ghosts.{givenOf, Recorded, Took, Lost, Emptied, Gho
 use Rattle.ghost_list.proofs.HeldLaws.{recorded-alone, took-alone, lost-alone, emptied-alone, set-up-alone}
 use Rattle.ghosts.specs.declared.Operation.{Operation}
 use Rattle.ghosts.specs.declared.Operation.the-variants.{Record, Remove, Oldest, Clear}
+use Rattle.ghosts.specs.declared.Wanted.{Wanted}
+use Rattle.ghosts.specs.declared.Wanted.the-variants.{New, Of, Bad}
 use Rattle.ghosts.specs.declared.Answer.{Answer}
 use Rattle.ghosts.specs.declared.Answer.the-variants.{Dropped, Nothing, There, NotThere, Cleared}
 use Rattle.ghosts.specs.declared.Stage.{Stage}
 use Rattle.ghosts.specs.declared.Stage.the-variants.{Open, Over}
-use Rattle.ghosts.specs.Operations.{gaveBack, wasThere, answerOf, limitsAlone, Opened, Taken, Staged}
+use Rattle.ghosts.specs.Operations.{wantedBy, wantedIn, gaveBack, wasThere, answerOf, limitsAlone, Opened, Taken, Staged}
+
+-- ---- records
+
+module _ {letter : ℕ} (n : ℕ) where
+  pub asks-new : letter ≡ 78 → New n ≡ wantedBy letter n
+  asks-new e = rw e refl
+
+  pub asks-record : letter ≡ 82 → Of (Record (record { 0 = n })) ≡ wantedBy letter n
+  asks-record e = rw e refl
+
+  pub asks-remove : letter ≡ 68 → Of (Remove (record { 0 = n })) ≡ wantedBy letter n
+  asks-remove e = rw e refl
+
+  pub asks-oldest : letter ≡ 69 → Of Oldest ≡ wantedBy letter n
+  asks-oldest e = rw e refl
+
+  pub asks-clear : letter ≡ 67 → Of Clear ≡ wantedBy letter n
+  asks-clear e = rw e refl
+
+  pub asks-nothing : (letter ≡ 78 → ⊥) → (letter ≡ 82 → ⊥) → (letter ≡ 68 → ⊥) → (letter ≡ 69 → ⊥) → (letter ≡ 67 → ⊥) → Bad ≡ wantedBy letter n
+  asks-nothing a b c d e = rw (ne-eqb letter 78 a, ne-eqb letter 82 b, ne-eqb letter 68 c, ne-eqb letter 69 d, ne-eqb letter 67 e) refl
+
+pub reads-short : (s : List ℕ) → length s < 9 → Bad ≡ wantedIn s
+reads-short s h = rw (lt-ltb (length s) 9 h) refl
+
+pub reads-record : (s : List ℕ) {letter n : ℕ} {w : Wanted} → 9 ≤ length s → letter ≡ le 1 s 0 → n ≡ le 8 s 1 → w ≡ wantedBy letter n → w ≡ wantedIn s
+reads-record s h a b e = rw (le-ltb (length s) 9 h) (e ∙ ap₂ wantedBy a b)
 
 -- ---- answers
 

@@ -1,10 +1,13 @@
 -- What an operation on a ghost list by itself comes to, and what it answers, by the rules (01, "Recording a ghost").
 -- Assumes nothing.
 use mathlib.Core.Path.{_≡_}
-use mathlib.Core.Bool.{Bool, true, false}
+use mathlib.Core.Bool.{Bool, true, false, cond}
 use mathlib.Core.List.{List}
 use mathlib.Core.Option.{Option, none, some}
 use Prim.Native.Nat.{ℕ}
+use lib.Dec.{eqb, ltb}
+use lib.ListN.{length}
+use Rattle.cells.specs.Cells.{le}
 use Rattle.nodes.specs.declared.Shape.{Shape}
 use Rattle.rules.specs.State.{Limits, State, setGhosts, emptyAt}
 use Rattle.rules.specs.Ghosts.{recordGhost, removeGhost, evictLru, clearGhosts}
@@ -12,10 +15,23 @@ use Rattle.store.specs.Holds.{stateIn, Becomes}
 use Rattle.ghost_list.specs.Ghosts.{GhostsAlone}
 use Rattle.ghosts.specs.declared.Operation.{Operation}
 use Rattle.ghosts.specs.declared.Operation.the-variants.{Record, Remove, Oldest, Clear}
+use Rattle.ghosts.specs.declared.Wanted.{Wanted}
+use Rattle.ghosts.specs.declared.Wanted.the-variants.{New, Of, Bad}
 use Rattle.ghosts.specs.declared.Answer.{Answer}
 use Rattle.ghosts.specs.declared.Answer.the-variants.{Dropped, Nothing, There, NotThere, Cleared}
 use Rattle.ghosts.specs.declared.Stage.{Stage}
 use Rattle.ghosts.specs.declared.Stage.the-variants.{Before, Open, Over}
+
+-- what a record asks for by its letter, one of N, R, D, E and C, and its number
+abbrev pub wantedBy : ℕ → ℕ → Wanted
+wantedBy letter n =
+    cond (eqb letter 78) (New n)
+    (cond (eqb letter 82) (Of (Record (record { 0 = n })))
+    (cond (eqb letter 68) (Of (Remove (record { 0 = n }))) (cond (eqb letter 69) (Of Oldest) (cond (eqb letter 67) (Of Clear) Bad))))
+
+-- a record is a letter and a number; one that is cut short is bad
+abbrev pub wantedIn : List ℕ → Wanted
+wantedIn s = cond (ltb (length s) 9) Bad (wantedBy (le 1 s 0) (le 8 s 1))
 
 -- what an operation answers: the key that it gives back, whether a key was there, or no more than that it is done
 pub data Reported : Type 0 where

@@ -9,7 +9,7 @@ ghost use lib.ListN.{length};
 ghost use Rattle.rules.specs.State.{most};
 ghost use Rattle.rules.specs.Refusals.{storeBytes};
 ghost use Rattle.ghost_list.specs.Ghosts.{GhostsAlone, givenOf};
-ghost use Rattle.ghosts.specs.Operations.{gaveBack, wasThere, answerOf, Opened, Taken, Staged};
+ghost use Rattle.ghosts.specs.Operations.{wantedBy, wantedIn, gaveBack, wasThere, answerOf, Opened, Taken, Staged};
 use ghost_list::Given;
 use libc::STDIN_FILENO;
 use libc::STDOUT_FILENO;
@@ -106,7 +106,9 @@ fn take(s: &mut [u8], z: Shape, o: Operation) -> Answer
 }
 
 // What a letter with its number asks for.
-fn wanted_by(letter: u8, n: u64) -> Wanted {
+fn wanted_by(letter: u8, n: u64) -> Wanted
+    ensures { λ r. ⌜ r ≡ wantedBy letter n ⌝ }
+{
     match letter {
         b'N' => Wanted::New(n),
         b'R' => Wanted::Of(Operation::Record(GuestBlock(n))),
@@ -118,11 +120,13 @@ fn wanted_by(letter: u8, n: u64) -> Wanted {
 }
 
 // What a record asks for; one that is cut short is bad.
-fn read(record: &[u8]) -> Wanted {
-    if record.len() < RECORD_BYTES {
+fn read(bytes: &[u8]) -> Wanted
+    ensures { λ r. ⌜ r ≡ wantedIn (now (bytes .entry)) ⌝ }
+{
+    if bytes.len() < RECORD_BYTES {
         return Wanted::Bad;
     }
-    wanted_by(cells::get8(record, 0), cells::get64(record, 1))
+    wanted_by(cells::get8(bytes, 0), cells::get64(bytes, 1))
 }
 
 fn line(label: &[u8]) {

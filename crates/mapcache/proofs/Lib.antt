@@ -1,1 +1,2 @@
 mod CodeLaws
+mod ExportedLaws

@@ -75,4 +75,4 @@ clears {z} {s} g d m w =
       state = m .becomes .state ∙ ap (setQueue Main []) (d .becomes .state ∙ ap (setQueue Small []) (g .becomes .state));
       rest = m .becomes .rest ∙ d .becomes .rest ∙ g .becomes .rest;
     })
-    (ap spokenOf w)
+    (ap spokenOf w) (λ u. absurd u)

@@ -132,4 +132,4 @@ unfolding apply onEvictOne
 evicts-one {z} {s} m {c} f a e d =
     let o = comes-then firstOf (m .becomes) f in
     answers (tellFirst (evictIfFull (stateIn z s) .told) (firstOf (evictIfFull (stateIn z s) .state))) refl (o .becomes)
-    (ap₂ (λ p r. pushedOf p ++ (told r ∷ [])) e d ∙ ap₂ (λ (l m : List Reply). l ++ m) (m .told) (o .replies))
+    (ap₂ (λ p r. pushedOf p ++ (told r ∷ [])) e d ∙ ap₂ (λ (l m : List Reply). l ++ m) (m .told) (o .replies)) (λ u. absurd u)

@@ -79,7 +79,7 @@ module _ {z : Shape} {s : List ℕ} {k : ℕ} {r : Lookup} (l : Looks z s k r) w
   unfolding apply onInsert onNew
   new {v = v} w e n c =
       answers (arrive (admits (w .was)) k v (evictIfFull (setGhosts (w .ghosts) (stateIn z s))))
-      (ap (onInsert k v (stateIn z s)) (n .place-is) ∙ ap (onNew k v (stateIn z s)) e) (c .becomes) (c .replies)
+      (ap (onInsert k v (stateIn z s)) (n .place-is) ∙ ap (onNew k v (stateIn z s)) e) (c .becomes) (c .replies) (λ u. absurd u)
 
   module _ {x : ℕ} (e : r ≡ Ghost x) where
     off : removeGhost k (stateIn z s .ghosts) ≡ record { ghosts = l .is-ghost x e .before ++ l .is-ghost x e .after; was = true }

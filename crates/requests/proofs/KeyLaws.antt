@@ -6,7 +6,7 @@ use Prim.Native.Nat.{ℕ, _+_, _<_, min}
 use native.Mathlib.Omega.{arith}
 use Rattle.nodes.specs.declared.Shape.{Shape}
 use Rattle.rules.specs.State.{Entry, State, maxFreq, withFreq, raise, revalue, putAt, keyed, place, nowhere}
-use Rattle.rules.specs.Records.{Request, GT, PK, RM, IN, Reply, MI, HI, RE, GO, Outcome, says}
+use Rattle.rules.specs.Records.{Request, GT, PK, RM, IN, Reply, MI, HI, RE, GO, Peeks, Outcome, says}
 use Rattle.rules.specs.Requests.{apply, onGet, onPeek, onRemove, onInsert}
 use Rattle.rules.proofs.StateLaws.{place-law}
 use Rattle.rules.proofs.EngineLaws.{place-none}
@@ -25,8 +25,8 @@ use Rattle.requests.specs.Answers.{spokenOf, alone, Answers, Comes}
 
 -- an answer, from what the rules come to
 pub answers : {z : Shape} {s s′ : List ℕ} {q : Request} {a : Spoken} (o : Outcome) → apply (stateIn z s) q ≡ o → Becomes z s s′ (o .state)
-    → spokenOf a ≡ o .replies → Answers z s s′ q a
-answers o e b r = record { becomes = rw e b; replies = rw e r }
+    → spokenOf a ≡ o .replies → (Peeks q → s′ ≡ s) → Answers z s s′ q a
+answers o e b r u = record { becomes = rw e b; replies = rw e r; untouched = u }
 
 -- nothing changes
 pub becomes-same : {z : Shape} {s : List ℕ} → Keeps z s → Becomes z s s (stateIn z s)
@@ -58,7 +58,7 @@ module _ {z : Shape} {s : List ℕ} {k : ℕ} {r : Lookup} (l : Looks z s k r) w
 
 module _ {z : Shape} {s : List ℕ} {k : ℕ} (h : Held z s) (n : Nowhere z s k) {a : Spoken} (w : a ≡ alone Miss) where
   missed : (q : Request) → apply (stateIn z s) q ≡ says (stateIn z s) MI → Answers z s s q a
-  missed q e = answers (says (stateIn z s) MI) e (becomes-same (h .keeps)) (ap spokenOf w)
+  missed q e = answers (says (stateIn z s) MI) e (becomes-same (h .keeps)) (ap spokenOf w) (λ u. refl)
 
   pub get-miss : Answers z s s (GT k) a
   unfolding apply onGet
@@ -98,14 +98,14 @@ module _ {z : Shape} {s : List ℕ} {k : ℕ} {r : Lookup} (l : Looks z s k r) {
         (ap (onGet (stateIn z s)) (t .place-is))
         (subst (λ i. Becomes z s s′ (putAt (queueKind q) (t .before) (withFreq i (t .entry) ∷ []) (t .after) (stateIn z s))) (frequency w)
         (c .of (queueKind q) (t .before) (t .entry) (t .after) (t .seat)))
-        (ap spokenOf d ∙ ap (λ i. HI i ∷ []) old)
+        (ap spokenOf d ∙ ap (λ i. HI i ∷ []) old) (λ u. absurd u)
 
     pub peek-hit : Held z s → {a : Spoken} → a ≡ alone (Hit (y .value)) → Answers z s s (PK k) a
     unfolding apply onPeek
     peek-hit h d =
         let t = l .resident q x e in
         answers (says (stateIn z s) (HI (t .entry .value))) (ap (onPeek (stateIn z s)) (t .place-is)) (becomes-same (h .keeps))
-        (ap spokenOf d ∙ ap (λ i. HI i ∷ []) old)
+        (ap spokenOf d ∙ ap (λ i. HI i ∷ []) old) (λ u. refl)
 
     pub remove-gone : {s′ : List ℕ} → EntryRemoved z s s′ (queueKind q) x → {a : Spoken} → a ≡ alone (Gone (y .value)) → Answers z s s′ (RM k) a
     unfolding apply onRemove
@@ -113,7 +113,7 @@ module _ {z : Shape} {s : List ℕ} {k : ℕ} {r : Lookup} (l : Looks z s k r) {
         let t = l .resident q x e in
         answers (says (putAt (queueKind q) (t .before) [] (t .after) (stateIn z s)) (GO (t .entry .value))) (ap (onRemove (stateIn z s)) (t .place-is))
         (c .of (t .before) (t .entry) (t .after) (t .seat))
-        (ap spokenOf d ∙ ap (λ i. GO i ∷ []) old)
+        (ap spokenOf d ∙ ap (λ i. GO i ∷ []) old) (λ u. absurd u)
 
     pub insert-over : {n u : ℕ} → n ≡ min maxFreq (y .freq + 1) → {s′ : List ℕ} → ValueReplaced z s s′ x u n → {a : Spoken} → a ≡ alone (Replaced (y .value))
         → Answers z s s′ (IN k u) a
@@ -124,4 +124,4 @@ module _ {z : Shape} {s : List ℕ} {k : ℕ} {r : Lookup} (l : Looks z s k r) {
         (ap (onInsert k u (stateIn z s)) (t .place-is))
         (subst (λ i. Becomes z s s′ (putAt (queueKind q) (t .before) (revalue u (withFreq i (t .entry)) ∷ []) (t .after) (stateIn z s))) (frequency w)
         (c .of (queueKind q) (t .before) (t .entry) (t .after) (t .seat)))
-        (ap spokenOf d ∙ ap (λ i. RE i ∷ []) old)
+        (ap spokenOf d ∙ ap (λ i. RE i ∷ []) old) (λ u. absurd u)

@@ -9,7 +9,7 @@ use Rattle.rules.specs.Parts.{popTail}
 use Rattle.rules.specs.declared.GuestBlock.{GuestBlock}
 use Rattle.rules.specs.declared.PhysicalBlock.{PhysicalBlock}
 use Rattle.rules.specs.State.{Entry, State, Queue, queueOf, setQueue}
-use Rattle.rules.specs.Records.{Request, Reply, Outcome}
+use Rattle.rules.specs.Records.{Request, Reply, Peeks, Outcome}
 use Rattle.rules.specs.Eviction.{wanted, evictIfFull}
 use Rattle.rules.specs.Requests.{arrive, hands, onFirst, onSecond, firstQueue, apply}
 use Rattle.wire.specs.Wire.{told}
@@ -30,10 +30,11 @@ spokenOf r = pushedOf (r .pushed) ++ (told (r .closing) ∷ [])
 abbrev pub alone : Reply· → Spoken
 alone r = record { pushed = Nothing; closing = r }
 
--- the request q was answered by r
+-- the request q was answered by r; a peek changed no byte
 pub record Answers (z : Shape) (s s′ : List ℕ) (q : Request) (r : Spoken) : Type 0 where
   pub becomes : Becomes z s s′ (apply (stateIn z s) q .state)
   pub replies : spokenOf r ≡ apply (stateIn z s) q .replies
+  pub untouched : Peeks q → s′ ≡ s
 
 -- a part of a request came to o, and said l
 pub record Comes (z : Shape) (s s′ : List ℕ) (o : Outcome) (l : List Reply) : Type 0 where

@@ -1,6 +1,6 @@
 -- Demand 3: nothing leaves untold.
 -- Assumes nothing.
-use Prim.Native.Nat.{ℕ, suc, _+_, _≤_}
+use Prim.Native.Nat.{ℕ, _+_, _≤_}
 use native.Mathlib.Omega.{arith}
 use mathlib.Core.Path.{_≡_, refl, ap, _∙_, sym}
 use mathlib.Core.Logic.{inl, inr}
@@ -10,13 +10,14 @@ use lib.Dec.{eqb}
 use borrow.Author.Tests.{eqb-true, eq-eqb}
 use Rattle.rules.specs.Parts.{bit, total, popTail}
 use Rattle.rules.specs.State.{Entry, Limits, State, Queue, Small, Main, keyIs, fresh, raise, revalue, cool, queueOf, setGhosts, emptyAt, residents}
-use Rattle.rules.specs.State.{warmth, keyed, places, Place, nowhere, here, place, Fine, Sound}
-use Rattle.rules.specs.Records.{Request, GT, PK, RM, IN, EV, CL, Reply, NW, AllNarrow, Outcome, tellFirst}
+use Rattle.rules.specs.State.{keyed, Place, nowhere, here, place, Fine, Sound}
+use Rattle.rules.specs.Records.{Request, GT, PK, RM, IN, EV, CL, Reply, NW, AllNarrow, tellFirst}
 use Rattle.rules.specs.Ghosts.{Removed, removeGhost}
-use Rattle.rules.specs.Eviction.{tell, Evicted, evictIfFull, Walk}
+use Rattle.rules.specs.Eviction.{tell, Evicted, evictIfFull}
 use Rattle.rules.specs.Requests.{run, apply, onGet, onPeek, onRemove, onInsert, onNew, onFirst, onEvictOne, admits, arrive, firstQueue}
 use Rattle.rules.specs.Ledger.{same, held, handedIn, handedOut, clears, Answered, history}
-use Rattle.rules.specs.Ledger.{Ledger, blank, opens, booked, ledger, Balanced, served, histories}
+use Rattle.rules.specs.Ledger.{Ledger, blank, opens, booked, ledger, Balanced, repliesOf, served, histories, joined}
+use Rattle.rules.specs.Demand3.{FullInsert, Demand3, EachNarrow}
 use Rattle.rules.proofs.PartsLaws.{total-append, pop-law}
 use Rattle.rules.proofs.StateLaws.{push-total, pop-total, put-total, back-total, Places, place-law}
 use Rattle.rules.proofs.SoundLaws.{Roomy, roomy-law, walk-total, Ends, first-ends, apply-sound, run-sound, empty-sound}
@@ -139,18 +140,6 @@ module _ (k v : ℕ) where
 
 -- ---- an absent key and a full cache
 
--- one pair is handed out, in as many pops as the eviction has steps, at most F + 1; and the new pair is resident
-pub record FullInsert (k v : ℕ) (σ : State) (o : Outcome) : Type 0 where
-  pub ghosts : List ℕ
-  pub queue : Queue
-  pub entry : Entry
-  pub pops : ℕ
-  pub freed : State
-  pub walk : Walk (setGhosts ghosts σ) pops queue entry freed
-  pub few : pops ≤ suc (warmth σ)
-  pub told : o .replies ≡ tell queue entry ∷ NW pops ∷ []
-  pub resident : held k v (o .state) ≡ 1
-
 bit-and : (s t : Bool) → bit (s && t) ≤ bit s
 bit-and true true = omega arith
 bit-and true false = omega arith
@@ -163,14 +152,13 @@ held-in k v (e ∷ l) = omega (arith, held-in k v l, bit-and (eqb k (e .key)) (e
 same-self : (k v : ℕ) → same k v k v ≡ 1
 same-self k v = rw (eq-eqb k k refl, eq-eqb v v refl)
 
-arrive-full : (q : Queue) (k v : ℕ) (g : List ℕ) (σ : State) (w : Evicted) → σ .limits .capacity ≤ residents σ → keyed k σ ≡ 0
-    → Roomy (setGhosts g σ) w → FullInsert k v σ (arrive q k v w)
-arrive-full q k v g σ w full absent (inl h) = absurd (omega (arith, h .0))
-arrive-full q k v g σ w full absent (inr h) =
+arrive-full : (k v : ℕ) (σ : State) (w : Evicted) → σ .limits .capacity ≤ residents σ → keyed k σ ≡ 0
+    → Roomy (setGhosts (removeGhost k (σ .ghosts) .ghosts) σ) w → FullInsert k v σ (arrive (admits (removeGhost k (σ .ghosts) .was)) k v w)
+arrive-full k v σ w full absent (inl h) = absurd (omega (arith, h .0))
+arrive-full k v σ w full absent (inr h) =
     let r = h .1 in
     let τ = w .state in
     record {
-      ghosts = g;
       queue = r .queue;
       entry = r .entry;
       pops = w .pops;
@@ -178,10 +166,11 @@ arrive-full q k v g σ w full absent (inr h) =
       walk = r .walk;
       few = r .few;
       told = rw (r .told-is);
+      pushed = refl;
       resident =
           omega (
             arith,
-            push-total (λ e. same k v (e .key) (e .value)) q (fresh k v) τ,
+            push-total (λ e. same k v (e .key) (e .value)) (admits (removeGhost k (σ .ghosts) .was)) (fresh k v) τ,
             same-self k v,
             held-in k v (τ .small),
             held-in k v (τ .main),
@@ -194,16 +183,15 @@ arrive-full q k v g σ w full absent (inr h) =
     blind k Small e = refl
     blind k Main e = refl
 
-new-full : (k v : ℕ) (σ : State) (w : Removed) → Sound σ → σ .limits .capacity ≤ residents σ → keyed k σ ≡ 0 → FullInsert k v σ (onNew k v σ w)
+new-full : (k v : ℕ) (σ : State) → Sound σ → σ .limits .capacity ≤ residents σ → keyed k σ ≡ 0 → FullInsert k v σ (onNew k v σ (removeGhost k (σ .ghosts)))
 unfolding onNew
-new-full k v σ w s full absent =
-    let τ = setGhosts (w .ghosts) σ in
-    arrive-full (admits (w .was)) k v (w .ghosts) σ (evictIfFull τ) full absent (roomy-law τ (s .fine))
+new-full k v σ s full absent =
+    let τ = setGhosts (removeGhost k (σ .ghosts) .ghosts) σ in arrive-full k v σ (evictIfFull τ) full absent (roomy-law τ (s .fine))
 
 insert-full : (k v : ℕ) (σ : State) (p : Place) → Places k σ p → keyed k σ ≡ 0 → Sound σ → σ .limits .capacity ≤ residents σ
     → FullInsert k v σ (onInsert k v σ p)
 unfolding onInsert
-insert-full k v σ nowhere h absent s full = new-full k v σ (removeGhost k (σ .ghosts)) s full absent
+insert-full k v σ nowhere h absent s full = new-full k v σ s full absent
 insert-full k v σ (here q b e a) h absent s full =
     absurd (omega (arith, put-total (λ x. bit (keyIs k x)) q b e [] a σ (h .0), ap bit (h .1)))
 
@@ -213,22 +201,12 @@ full-insert k v σ s absent full = insert-full k v σ (place k σ) (place-law k 
 
 -- ---- demand 3, put together
 
--- of the state that a count starts from, the state now, and all that was asked and answered on the way to it
-pub record Demand3 (σ₀ σ : State) (h : List Answered) : Type 0 where
-  pub untold : (k v : ℕ) → Balanced k v (ledger k v h (opens k v σ₀)) σ
-  pub once : (k : ℕ) → places k σ ≤ 1
-  pub full : (k v : ℕ) → keyed k σ ≡ 0 → residents σ ≡ σ .limits .capacity → FullInsert k v σ (apply σ (IN k v))
-
-abbrev pub EachSized : List (List Request) → Type 0
-EachSized [] = Unit {0}
-EachSized (rs ∷ calls) = AllNarrow rs × EachSized calls
-
-pub served-sound : (σ : State) (calls : List (List Request)) → EachSized calls → Sound σ → Sound (served σ calls)
+pub served-sound : (σ : State) (calls : List (List Request)) → EachNarrow calls → Sound σ → Sound (served σ calls)
 unfolding served
 served-sound σ [] z s = s
 served-sound σ (rs ∷ calls) z s = served-sound (run σ rs .state) calls (z .1) (run-sound σ rs (z .0) s)
 
-pub served-ledger : (k v : ℕ) (σ : State) (calls : List (List Request)) (l : Ledger) → EachSized calls → Sound σ → Balanced k v l σ
+pub served-ledger : (k v : ℕ) (σ : State) (calls : List (List Request)) (l : Ledger) → EachNarrow calls → Sound σ → Balanced k v l σ
     → Balanced k v (ledger k v (histories σ calls) l) (served σ calls)
 unfolding served histories ledger
 served-ledger k v σ [] l z s b = b
@@ -237,7 +215,7 @@ served-ledger k v σ (rs ∷ calls) l z s b =
     (served-ledger k v (run σ rs .state) calls (ledger k v (history σ rs) l) (z .1) (run-sound σ rs (z .0) s) (run-ledger k v σ rs l (z .0) s b))
 
 -- from any sound state on, through any calls
-pub demand-3-from : (σ : State) (calls : List (List Request)) → Sound σ → EachSized calls → Demand3 σ (served σ calls) (histories σ calls)
+pub demand-3-from : (σ : State) (calls : List (List Request)) → Sound σ → EachNarrow calls → Demand3 σ (served σ calls) (histories σ calls)
 demand-3-from σ calls e z =
     let s = served-sound σ calls z e in
     record {
@@ -247,7 +225,7 @@ demand-3-from σ calls e z =
     }
 
 -- from a creation on: the ledger opens blank
-pub demand-3 : (L : Limits) (calls : List (List Request)) → Fine L → EachSized calls
+pub demand-3 : (L : Limits) (calls : List (List Request)) → Fine L → EachNarrow calls
     → Demand3 (emptyAt L) (served (emptyAt L) calls) (histories (emptyAt L) calls)
 demand-3 L calls f z = demand-3-from (emptyAt L) calls (empty-sound L f) z
 
@@ -268,10 +246,6 @@ unfolding run history
 history-append σ [] b = refl
 history-append σ (r ∷ a) b = ap (λ h. record { request = r; replies = apply σ r .replies } ∷ h) (history-append (apply σ r .state) a b)
 
-abbrev pub joined : List (List Request) → List Request
-joined [] = []
-joined (rs ∷ calls) = rs ++ joined calls
-
 pub served-once : (σ : State) (calls : List (List Request)) → served σ calls ≡ run σ (joined calls) .state
 unfolding served run
 served-once σ [] = refl
@@ -283,10 +257,6 @@ histories-once σ [] = refl
 histories-once σ (rs ∷ calls) = ap (λ h. history σ rs ++ h) (histories-once (run σ rs .state) calls) ∙ sym (history-append σ rs (joined calls))
 
 -- the replies of a history are those of the run
-abbrev pub repliesOf : List Answered → List Reply
-repliesOf [] = []
-repliesOf (a ∷ h) = a .replies ++ repliesOf h
-
 pub history-replies : (σ : State) (rs : List Request) → repliesOf (history σ rs) ≡ run σ rs .replies
 unfolding run history
 history-replies σ [] = refl

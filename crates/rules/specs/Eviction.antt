@@ -1,6 +1,6 @@
 -- Eviction: one step, and steps until a pair has left (01, "Eviction").
 -- Assumes nothing.
-use Prim.Native.Nat.{ℕ, suc, zero}
+use Prim.Native.Nat.{ℕ, suc, zero, _≤_}
 use mathlib.Core.Bool.{Bool, cond, _||_}
 use mathlib.Core.Path.{_≡_}
 use mathlib.Core.List.{List, [], _∷_}
@@ -91,3 +91,11 @@ evictIfFull σ = cond (leb (σ .limits .capacity) (residents σ)) (evict σ) (un
 pub data Walk : State → ℕ → Queue → Entry → State → Type 0 where
   last : {σ τ : State} {q : Queue} {e : Entry} → step σ ≡ left q e τ → Walk σ 1 q e τ
   on : {σ ρ τ : State} {n : ℕ} {p q : Queue} {e : Entry} → step σ ≡ moved p ρ → Walk ρ n q e τ → Walk σ (suc n) q e τ
+
+-- a whole eviction: the pair that leaves is told, and the pops are the steps walked, at most F + 1
+pub record Evicts (σ : State) (w : Evicted) : Type 0 where
+  pub queue : Queue
+  pub entry : Entry
+  pub walk : Walk σ (w .pops) queue entry (w .state)
+  pub told-is : w .told ≡ tell queue entry ∷ []
+  pub few : w .pops ≤ suc (warmth σ)

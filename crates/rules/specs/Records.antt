@@ -27,6 +27,20 @@ abbrev pub AllNarrow : List Request → Type 0
 AllNarrow [] = Unit {0}
 AllNarrow (r ∷ rs) = Narrow r × AllNarrow rs
 
+-- looks and changes nothing
+abbrev pub Peeks : Request → Type 0
+Peeks (GT k) = ⊥
+Peeks (PK k) = Unit {0}
+Peeks (RM k) = ⊥
+Peeks (IN k v) = ⊥
+Peeks EV = ⊥
+Peeks CL = ⊥
+
+-- none of them does more; there may be none
+abbrev pub AllPeeks : List Request → Type 0
+AllPeeks [] = Unit {0}
+AllPeeks (r ∷ rs) = Peeks r × AllPeeks rs
+
 -- what a request, or a run of them, comes to
 pub record Outcome : Type 0 where
   pub state : State

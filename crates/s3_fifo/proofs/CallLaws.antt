@@ -59,11 +59,11 @@ module _ {v : Survey} (q : List ℕ) (g : v ≡ surveyed (length q) (parse q)) w
 
 pub called-short : {s : List ℕ} → length s < storeBytes → (q p : List ℕ) → Called s q p (Refused ShortStore) s p
 unfolding call
-called-short h q p = record { store = short; store-is = h; leaves = (refl, refl, refl) }
+called-short h q p = record { store = short; store-is = h; leaves = (refl, refl, refl); untouched = λ u. refl }
 
 pub called-damaged : {s : List ℕ} → storeBytes ≤ length s → {r : Checked} → Checks s r → r ≡ Damaged → (q p : List ℕ) → Called s q p (Refused DamagedStore) s p
 unfolding call
-called-damaged b c e q p = record { store = damaged; store-is = (b, c .damaged e); leaves = (refl, refl, refl) }
+called-damaged b c e q p = record { store = damaged; store-is = (b, c .damaged e); leaves = (refl, refl, refl); untouched = λ u. refl }
 
 -- ---- a sound store
 
@@ -74,7 +74,12 @@ module _ {z : Shape} {s : List ℕ} (b : storeBytes ≤ length s) (h : Held z s)
   pub called-long : mostRequestBytes < length q → Called s q p (Refused LongRequests) s p
   unfolding call
   called-long l =
-      record { store = reads (stateIn z s); store-is = (b, held-holds h); leaves = rw (lt-ltb mostRequestBytes (length q) l) (refl, refl, refl) }
+      record {
+        store = reads (stateIn z s);
+        store-is = (b, held-holds h);
+        leaves = rw (lt-ltb mostRequestBytes (length q) l) (refl, refl, refl);
+        untouched = λ u. refl;
+      }
 
   module _ (l : length q ≤ mostRequestBytes) {v : Survey} (g : v ≡ surveyed (length q) (parse q)) {t : Stop} (e : t ≡ v .stop) where
     called-bad : (t ≡ Whole → ⊥) → {i : ℕ} → i ≡ v .at → Called s q p (Refused (BadRecord i)) s p
@@ -86,6 +91,7 @@ module _ {z : Shape} {s : List ℕ} (b : storeBytes ≤ length s) (h : Held z s)
           store = reads (stateIn z s);
           store-is = (b, held-holds h);
           leaves = rw (le-ltb mostRequestBytes (length q) l, w .0, o) (refl, refl, refl);
+          untouched = λ u. refl;
         }
 
     pub called-unknown : t ≡ Unknown → {i : ℕ} → i ≡ v .at → Called s q p (Refused (BadRecord i)) s p
@@ -104,6 +110,7 @@ module _ {z : Shape} {s : List ℕ} (b : storeBytes ≤ length s) (h : Held z s)
             store = reads (stateIn z s);
             store-is = (b, held-holds h);
             leaves = rw (le-ltb mostRequestBytes (length q) l, w, o, lt-ltb (length p) i (omega arith)) (refl, refl, refl);
+            untouched = λ u. refl;
           }
 
       pub called-ran : v .room ≤ length p → {s′ p′ : List ℕ} {n : ℕ} → Runs z s s′ (parseFrom q 0 .requests) p p′ 0 n → Called s q p (Done n) s′ p′
@@ -124,4 +131,5 @@ module _ {z : Shape} {s : List ℕ} (b : storeBytes ≤ length s) (h : Held z s)
                   record { holds = rw (x .carried .state) at (held-holds (x .held)); surplus = rw y at u; same-length = x .same },
                   x .carried .replies ∙ ap (λ (k : ℕ). bs ++ drop k p) (zero-add (length bs)),
                 );
+            untouched = x .untouched;
           }

@@ -2,7 +2,7 @@
 -- Assumes nothing.
 use mathlib.Core.Path.{_≡_, refl, sym, ap, ap₂, _∙_, subst}
 use mathlib.Core.Bool.{Bool, true, false, cond}
-use mathlib.Core.List.{List, [], _∷_, _++_, map}
+use mathlib.Core.List.{List, [], _∷_, _++_}
 use Prim.Native.Nat.{ℕ, _≤_}
 use native.Mathlib.Omega.{arith}
 use lib.Dec.{ltb}
@@ -12,31 +12,30 @@ use borrow.Author.Tests.{ltb-false}
 use Rattle.cells.specs.Cells.{Bytes}
 use Rattle.rules.specs.declared.Turned.{Turned}
 use Rattle.rules.specs.declared.Turned.the-variants.{ShortStore}
-use Rattle.rules.specs.State.{Limits, State, emptyAt, keyed, residents, Fine, Sound}
-use Rattle.rules.specs.Records.{Request, IN, AllNarrow, Outcome, tellFirst}
+use Rattle.rules.specs.State.{Limits, State, emptyAt, Fine}
+use Rattle.rules.specs.Records.{Request, IN, AllNarrow, AllPeeks, Outcome, tellFirst}
 use Rattle.rules.specs.Requests.{apply, run}
 use Rattle.rules.specs.Bytes.{encodeAll, parse}
 use Rattle.rules.specs.Sizing.{Sized, limits, refused as misfit, sizing}
 use Rattle.rules.specs.Refusals.{RefusalRow, storeBytes, runRows}
 use Rattle.rules.specs.Verdict.{Verdict, refused as turnedBy, done, turnedAway, unless, onSized, create, Reads, short, damaged, reads, finished, call}
-use Rattle.rules.specs.Ledger.{Answered, history}
+use Rattle.rules.specs.Ledger.{history}
+use Rattle.rules.specs.Replies.{ReadAs}
 use Rattle.rules.proofs.SoundLaws.{empty-sound}
 use Rattle.rules.proofs.ParseLaws.{parse-sized}
 use Rattle.rules.proofs.RoomLaws.{encode-append}
-use Rattle.rules.proofs.LedgerLaws.{FullInsert, Demand3, demand-3-run, run-append, repliesOf, history-replies}
+use Rattle.rules.proofs.LedgerLaws.{demand-3-run, run-append}
+use Rattle.rules.proofs.RepliesLaws.{reading-once, history-read}
 use Rattle.sizing.specs.declared.Settings.{Settings}
 use Rattle.sizing.proofs.AcceptedLaws.{accepted-fine, accepted-limits}
 use Rattle.store.specs.Holds.{Holds}
 use Rattle.s3_fifo.specs.declared.Creation.the-variants.{Made}
 use Rattle.s3_fifo.specs.declared.Ran.the-variants.{Done}
 use Rattle.s3_fifo.specs.Calls.{Said, gave, turned, ranSays, ReadsAs, Follows, Created, Called}
-use Rattle.s3_fifo.specs.Chains.{limitsMade, Chain, start, accepted, refused}
-use Rattle.s3_fifo.proofs.OnceLaws.{reads-once}
+use Rattle.s3_fifo.specs.Chains.{limitsMade, Chain, start, accepted, refused, Grown, Kept, FullWithin}
+use Rattle.s3_fifo.proofs.OnceLaws.{gave-not, reads-once}
 
 -- ---- from an answer to the verdict's last word
-
-gave-not : {n m d : ℕ} → gave n ≡ turned m d → ⊥
-gave-not e = let z : _≡_ {A = ℕ} 0 1 = cc in omega arith
 
 -- an answer that is no refusal passed every row
 module _ (n : ℕ) (s s′ p p′ : List ℕ) where
@@ -104,29 +103,23 @@ served {s} {q} {p} {s′} {p′} {n} {σ} h b c =
 pub created-intact : {settings : Settings} {s s′ : List ℕ} → Created settings s Made s′ → ReadsAs s′ damaged → ⊥
 created-intact {settings} c d = d .1 (emptyAt (limitsMade settings)) (begun c .holds)
 
-intact : (s q p s′ p′ : List ℕ) (n : ℕ) (x : Reads) → ReadsAs s x → Follows (call x q (length p)) (gave n) s s′ p p′ → ReadsAs s′ damaged → ⊥
+intact : (s q p s′ p′ : List ℕ) (n : ℕ) (x : Reads) → (AllPeeks (parse q .requests) → s′ ≡ s) → ReadsAs s x → Follows (call x q (length p)) (gave n) s s′ p p′
+    → ReadsAs s′ damaged → ⊥
 unfolding call
-intact s q p s′ p′ n short h l d = absurd (gave-not (l .0))
-intact s q p s′ p′ n damaged h l d = absurd (gave-not (l .0))
-intact s q p s′ p′ n (reads σ) h l d =
-    d .1 (run σ (parse q .requests) .state)
-    (served {s = s} {q = q} {p = p} {s′ = s′} {p′ = p′} {n = n} {σ = σ} (h .1) (h .0) (record { store = reads σ; store-is = h; leaves = l }) .0 .holds)
+intact s q p s′ p′ n short u h l d = absurd (gave-not (l .0))
+intact s q p s′ p′ n damaged u h l d = absurd (gave-not (l .0))
+intact s q p s′ p′ n (reads σ) u h l d =
+    let c : Called s q p (Done n) s′ p′ = record { store = reads σ; store-is = h; leaves = l; untouched = u } in
+    d .1 (run σ (parse q .requests) .state) (served (h .1) (h .0) c .0 .holds)
 
 pub called-intact : {s q p s′ p′ : List ℕ} {n : ℕ} → Called s q p (Done n) s′ p′ → ReadsAs s′ damaged → ⊥
-called-intact {s} {q} {p} {s′} {p′} {n} c d = intact s q p s′ p′ n (c .store) (c .store-is) (c .leaves) d
+called-intact {s} {q} {p} {s′} {p′} {n} c d = intact s q p s′ p′ n (c .store) (c .untouched) (c .store-is) (c .leaves) d
 
 -- ---- the chain
 
-pub record Grown (s : List ℕ) (σ₀ : State) (rs : List Request) (bs : List ℕ) : Type 0 where
-  pub sound : Sound σ₀
-  pub sized : AllNarrow rs
-  pub holds : Holds s (run σ₀ rs .state)
-  pub told : bs ≡ encodeAll (run σ₀ rs .replies)
-  pub long : storeBytes ≤ length s
-
-sized-append : (a b : List Request) → AllNarrow a → AllNarrow b → AllNarrow (a ++ b)
-sized-append [] b h g = g
-sized-append (r ∷ a) b h g = (h .0, sized-append a b (h .1) g)
+narrow-append : (a b : List Request) → AllNarrow a → AllNarrow b → AllNarrow (a ++ b)
+narrow-append [] b h g = g
+narrow-append (r ∷ a) b h g = (h .0, narrow-append a b (h .1) g)
 
 grow : {s q p s′ p′ : List ℕ} {n : ℕ} {σ₀ : State} {rs : List Request} {bs : List ℕ} → Grown s σ₀ rs bs → Bytes q → Called s q p (Done n) s′ p′
     → Grown s′ σ₀ (rs ++ parse q .requests) (bs ++ take n p′)
@@ -136,7 +129,7 @@ grow {s} {q} {p} {s′} {p′} {n} {σ₀} {rs} {bs} g b c =
     run-append σ₀ rs (parse q .requests) in
     record {
       sound = g .sound;
-      sized = sized-append rs (parse q .requests) (g .sized) (parse-sized q b);
+      narrow = narrow-append rs (parse q .requests) (g .narrow) (parse-sized q b);
       holds = subst (Holds s′) (ap (λ (o : Outcome). o .state) (sym e)) (v .0 .holds);
       told =
           ap₂ (λ (x y : List ℕ). x ++ y) (g .told) (v .0 .told)
@@ -148,49 +141,22 @@ grow {s} {q} {p} {s′} {p′} {n} {σ₀} {rs} {bs} g b c =
 pub grown : {s : List ℕ} {σ₀ : State} {rs : List Request} {bs : List ℕ} → Chain s σ₀ rs bs → Grown s σ₀ rs bs
 unfolding run encodeAll
 grown (start {settings = settings} c) =
-    let b = begun c in record { sound = empty-sound (limitsMade settings) (b .fine); sized = tt; holds = b .holds; told = refl; long = b .long }
+    let b = begun c in record { sound = empty-sound (limitsMade settings) (b .fine); narrow = tt; holds = b .holds; told = refl; long = b .long }
 grown (accepted h b c) = grow (grown h) b c
 grown (refused {s = s} {q = q} {p = p} {s′ = s′} {p′ = p′} {r = r} {σ₀ = σ₀} {rs = rs} {bs = bs} n d h c e) =
     subst (λ (x : List ℕ). Grown x σ₀ rs bs) (sym (refused-same (call (c .store) q (length p)) n d (ranSays r) s s′ p p′ (c .leaves) e)) (grown h)
 
--- demand 3: of the state that a chain started from, the state that the store holds after it, and all that was asked and answered
-pub record Kept (s : List ℕ) (σ₀ : State) (rs : List Request) (bs : List ℕ) : Type 0 where
-  pub state : State
-  pub holds : Holds s state
-  pub seen : List Answered
-  pub asked : map (λ a. a .request) seen ≡ rs
-  pub told : encodeAll (repliesOf seen) ≡ bs
-  pub demand : Demand3 σ₀ state seen
-
-history-asked : (σ : State) (rs : List Request) → map (λ a. a .request) (history σ rs) ≡ rs
-unfolding history
-history-asked σ [] = refl
-history-asked σ (r ∷ rs) = ap (λ l. r ∷ l) (history-asked _ rs)
-
 pub chain-keeps : {s : List ℕ} {σ₀ : State} {rs : List Request} {bs : List ℕ} → Chain s σ₀ rs bs → Kept s σ₀ rs bs
 chain-keeps {s} {σ₀} {rs} {bs} c =
     let g = grown c in
-    record {
-      state = run σ₀ rs .state;
-      holds = g .holds;
-      seen = history σ₀ rs;
-      asked = history-asked σ₀ rs;
-      told = ap encodeAll (history-replies σ₀ rs) ∙ sym (g .told);
-      demand = demand-3-run σ₀ rs (g .sound) (g .sized);
-    }
+    let r : ReadAs rs bs (history σ₀ rs) = rw (g .told) (history-read σ₀ rs (g .sound) (g .narrow)) in
+    record { grown = g; read = r; only = λ h k. reading-once k r; demand = demand-3-run σ₀ rs (g .sound) (g .narrow) }
 
 -- ---- the full insert of demand 3, wherever in a chain it stands, also in the middle of a call
 
-sized-front : (a b : List Request) → AllNarrow (a ++ b) → AllNarrow a
-sized-front [] b h = tt
-sized-front (r ∷ a) b h = (h .0, sized-front a b (h .1))
-
--- after the requests a, on the state before it, and with the requests b after it: what the insert did, and where its replies stand
-pub record FullWithin (σ₀ : State) (a : List Request) (k v : ℕ) (b : List Request) (bs : List ℕ) : Type 0 where
-  pub before : State
-  pub before-is : before ≡ run σ₀ a .state
-  pub full : keyed k before ≡ 0 → residents before ≡ before .limits .capacity → FullInsert k v before (apply before (IN k v))
-  pub told : bs ≡ encodeAll (run σ₀ a .replies) ++ (encodeAll (apply before (IN k v) .replies) ++ encodeAll (run (apply before (IN k v) .state) b .replies))
+narrow-front : (a b : List Request) → AllNarrow (a ++ b) → AllNarrow a
+narrow-front [] b h = tt
+narrow-front (r ∷ a) b h = (h .0, narrow-front a b (h .1))
 
 told-within : (σ : State) (a : List Request) (r : Request) (b : List Request) → let τ = run σ a .state in
     encodeAll (run σ (a ++ r ∷ b) .replies) ≡ encodeAll (run σ a .replies) ++ (encodeAll (apply τ r .replies) ++ encodeAll (run (apply τ r .state) b .replies))
@@ -205,10 +171,10 @@ pub full-within : (a : List Request) (k v : ℕ) (b : List Request) {s bs : List
     → rs ≡ a ++ IN k v ∷ b → FullWithin σ₀ a k v b bs
 full-within a k v b {s} {bs} {σ₀} {rs} c e =
     let g = grown c in
-    let z : AllNarrow (a ++ IN k v ∷ b) = subst AllNarrow e (g .sized) in
+    let z : AllNarrow (a ++ IN k v ∷ b) = subst AllNarrow e (g .narrow) in
     record {
       before = run σ₀ a .state;
       before-is = refl;
-      full = demand-3-run σ₀ a (g .sound) (sized-front a (IN k v ∷ b) z) .full k v;
+      full = demand-3-run σ₀ a (g .sound) (narrow-front a (IN k v ∷ b) z) .full k v;
       told = g .told ∙ ap (λ (l : List Request). encodeAll (run σ₀ l .replies)) e ∙ told-within σ₀ a (IN k v) b;
     }

@@ -3,3 +3,4 @@ pub mod RunLaws
 pub mod CallLaws
 pub mod OnceLaws
 pub mod ChainLaws
+pub mod PromisesLaws

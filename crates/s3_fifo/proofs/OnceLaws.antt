@@ -18,8 +18,12 @@ use Rattle.s3_fifo.specs.declared.Creation.the-variants.{Made, Refused a
 use Rattle.s3_fifo.specs.declared.Ran.{Ran}
 use Rattle.s3_fifo.specs.declared.Ran.the-variants.{Done, Refused}
 use Rattle.s3_fifo.specs.Calls.{Said, gave, turned, createdSays, ranSays, ReadsAs, Settled, Follows, Created, Called}
+use Rattle.s3_fifo.specs.Once.{Agrees, OneCreation, OneCall}
 
 -- ---- the answer is known by what it says
+
+pub gave-not : {n m d : ℕ} → gave n ≡ turned m d → ⊥
+gave-not e = let z : _≡_ {A = ℕ} 0 1 = cc in omega arith
 
 abbrev ranBy : Said → Ran
 ranBy (gave n) = Done n
@@ -58,18 +62,13 @@ reads-once s (reads σ) (reads τ) h g = ap reads (holds-once (h .1) (g .1))
 
 -- ---- two stores that nobody can tell apart by what they hold
 
-pub record Agrees (s₁ s₂ : List ℕ) : Type 0 where
-  pub holds : (σ : State) → Holds s₁ σ → Holds s₂ σ
-  pub back : (σ : State) → Holds s₂ σ → Holds s₁ σ
-  pub surplus : (σ : State) → Holds s₁ σ → drop (used (shapeFor (σ .limits))) s₁ ≡ drop (used (shapeFor (σ .limits))) s₂
-  pub same-length : length s₁ ≡ length s₂
+agrees-self : (a : Said) (s : List ℕ) → Agrees a s s
+agrees-self a s = record { refused-same = λ n d e. refl; holds = λ σ h. h; back = λ σ h. h; surplus = λ σ h. refl; same-length = refl }
 
-agrees-self : (s : List ℕ) → Agrees s s
-agrees-self s = record { holds = λ σ h. h; back = λ σ h. h; surplus = λ σ h. refl; same-length = refl }
-
-settled-agrees : {s s₁ s₂ : List ℕ} {τ : State} → Settled s s₁ τ → Settled s s₂ τ → Agrees s₁ s₂
-settled-agrees {s} {s₁} {s₂} {τ} a b =
+settled-agrees : {n : ℕ} {s s₁ s₂ : List ℕ} {τ : State} → Settled s s₁ τ → Settled s s₂ τ → Agrees (gave n) s₁ s₂
+settled-agrees {n} {s} {s₁} {s₂} {τ} a b =
     record {
+      refused-same = λ m d e. absurd (gave-not e);
       holds = λ σ h. subst (Holds s₂) (holds-once (a .holds) h) (b .holds);
       back = λ σ h. subst (Holds s₁) (holds-once (b .holds) h) (a .holds);
       surplus = λ σ h. subst
@@ -80,23 +79,25 @@ settled-agrees {s} {s₁} {s₂} {τ} a b =
     }
 
 -- what one verdict leaves is one thing
-follows-once : (v : Verdict State) (a b : Said) (s s₁ s₂ p p₁ p₂ : List ℕ) → Follows v a s s₁ p p₁ → Follows v b s s₂ p p₂ → (a ≡ b) × (p₁ ≡ p₂) × Agrees s₁ s₂
+follows-once : (v : Verdict State) (a b : Said) (s s₁ s₂ p p₁ p₂ : List ℕ) → Follows v a s s₁ p p₁ → Follows v b s s₂ p p₂
+    → (a ≡ b) × (p₁ ≡ p₂) × Agrees a s₁ s₂
 follows-once (refused n d) a b s s₁ s₂ p p₁ p₂ h g =
-    (h .0 ∙ sym (g .0), h .2 ∙ sym (g .2), subst (λ (x : List ℕ). Agrees s₁ x) (h .1 ∙ sym (g .1)) (agrees-self s₁))
-follows-once (done σ bs) a b s s₁ s₂ p p₁ p₂ h g = (h .0 ∙ sym (g .0), h .2 ∙ sym (g .2), settled-agrees (h .1) (g .1))
+    (h .0 ∙ sym (g .0), h .2 ∙ sym (g .2), subst (λ (x : List ℕ). Agrees a s₁ x) (h .1 ∙ sym (g .1)) (agrees-self a s₁))
+follows-once (done σ bs) a b s s₁ s₂ p p₁ p₂ h g =
+    (h .0 ∙ sym (g .0), h .2 ∙ sym (g .2), subst (λ (x : Said). Agrees x s₁ s₂) (sym (h .0)) (settled-agrees (h .1) (g .1)))
 
 -- ---- the two calls
 
-pub created-once : {settings : Settings} {s s₁ s₂ : List ℕ} (r t : Creation) → Created settings s r s₁ → Created settings s t s₂ → (r ≡ t) × Agrees s₁ s₂
+pub created-once : {settings : Settings} {s s₁ s₂ : List ℕ} (r t : Creation) → Created settings s r s₁ → Created settings s t s₂ → OneCreation r t s₁ s₂
 created-once {settings} {s} {s₁} {s₂} r t c d =
     let v = create (settings .capacity) (settings .«small_ratio») (settings .«ghost_ratio») (length s) in
     let l = follows-once v (createdSays r) (createdSays t) s s₁ s₂ [] [] [] (c .leaves) (d .leaves) in
-    (creation-once r t (l .0), l .2)
+    record { answer = creation-once r t (l .0); stores = l .2 }
 
-pub called-once : {s q p s₁ s₂ p₁ p₂ : List ℕ} (r t : Ran) → Called s q p r s₁ p₁ → Called s q p t s₂ p₂ → (r ≡ t) × (p₁ ≡ p₂) × Agrees s₁ s₂
+pub called-once : {s q p s₁ s₂ p₁ p₂ : List ℕ} (r t : Ran) → Called s q p r s₁ p₁ → Called s q p t s₂ p₂ → OneCall r t s₁ s₂ p₁ p₂
 called-once {s} {q} {p} {s₁} {s₂} {p₁} {p₂} r t c d =
     let e : c .store ≡ d .store = reads-once s (c .store) (d .store) (c .store-is) (d .store-is) in
     let f : Follows (call (d .store) q (length p)) (ranSays r) s s₁ p p₁ =
     subst (λ (x : Reads). Follows (call x q (length p)) (ranSays r) s s₁ p p₁) e (c .leaves) in
     let l = follows-once (call (d .store) q (length p)) (ranSays r) (ranSays t) s s₁ s₂ p p₁ p₂ f (d .leaves) in
-    (ran-once r t (l .0), l .1, l .2)
+    record { answer = ran-once r t (l .0); replies = l .1; stores = l .2 }

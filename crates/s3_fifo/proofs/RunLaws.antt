@@ -9,7 +9,7 @@ use lib.ListN.{length, take, drop, length-append, take-append-drop}
 use Rattle.cells.specs.Cells.{Bytes}
 use Rattle.nodes.specs.Nodes.{Rest, cols}
 use Rattle.nodes.specs.declared.Shape.{Shape}
-use Rattle.rules.specs.Records.{Request, Reply, ES, EM}
+use Rattle.rules.specs.Records.{Request, Reply, ES, EM, AllPeeks}
 use Rattle.rules.specs.Bytes.{encode, encodeAll, Reading, ask, readAt, Parsed, onReading, parseFrom}
 use Rattle.rules.proofs.RoomLaws.{encode-append}
 use Rattle.rules.proofs.ParseLaws.{parse-step, parse-sized-from, read-goes}
@@ -86,10 +86,19 @@ pub record Midway (z : Shape) (s₀ s q : List ℕ) (at₀ : ℕ) (p₀ p : List
   pub progress : Progress (stateIn z s₀) (stateIn z s) (parseFrom q at₀ .requests) (parseFrom q at .requests) p₀ p out₀ out
   pub rest : cols z s Rest ≡ cols z s₀ Rest
   pub same : length s ≡ length s₀
+  -- where there are only peeks to do: none of them has changed a byte, and only peeks are left
+  pub untouched : AllPeeks (parseFrom q at₀ .requests) → (s ≡ s₀) × AllPeeks (parseFrom q at .requests)
 
 pub midway-start : {z : Shape} {s q : List ℕ} {at : ℕ} {p : List ℕ} {out : ℕ} → Held z s → HasRoom (parseFrom q at .requests) p out → Bytes q
     → Midway z s s q at p p out at out
-midway-start {q = q} {at = at} h y b = record { held = h; progress = progress-start (h .sound) (parse-sized-from q at b) y; rest = refl; same = refl }
+midway-start {q = q} {at = at} h y b =
+    record {
+      held = h;
+      progress = progress-start (h .sound) (parse-sized-from q at b) y;
+      rest = refl;
+      same = refl;
+      untouched = λ u. (refl, u);
+    }
 
 module _ {z : Shape} {s₀ s q : List ℕ} {at₀ : ℕ} {p₀ p : List ℕ} {out₀ at out : ℕ} (m : Midway z s₀ s q at₀ p₀ p out₀ at out) where
   pub midway-held : Held z s
@@ -114,6 +123,12 @@ module _ {z : Shape} {s₀ s q : List ℕ} {at₀ : ℕ} {p₀ p : List ℕ} {ou
       pub midway-fits : out + length (encodeAll (spokenOf w)) ≤ length p
       midway-fits = progress-fits here (a .replies)
 
+      still : AllPeeks (parseFrom q at₀ .requests) → (s₁ ≡ s₀) × AllPeeks (parseFrom q after .requests)
+      still u =
+          let w = m .untouched u in
+          let v : AllPeeks (asked k ∷ parseFrom q after .requests) = subst AllPeeks more (w .1) in
+          (a .untouched (v .0) ∙ w .0, v .1)
+
       pub midway-next : {p₁ : List ℕ} {out₁ : ℕ} → Wrote p out (encodeAll (spokenOf w)) p₁ out₁ → length s₁ ≡ length s
           → Midway z s₀ s₁ q at₀ p₀ p₁ out₀ after out₁
       midway-next b n =
@@ -122,6 +137,7 @@ module _ {z : Shape} {s₀ s q : List ℕ} {at₀ : ℕ} {p₀ p : List ℕ} {ou
             progress = progress-next here (a .replies) (a .becomes .state) b;
             rest = a .becomes .rest ∙ m .rest;
             same = n ∙ m .same;
+            untouched = still;
           }
 
   -- nothing more is read, whatever ends the records
@@ -132,6 +148,7 @@ module _ {z : Shape} {s₀ s q : List ℕ} {at₀ : ℕ} {p₀ p : List ℕ} {ou
         carried = progress-end (m .progress) (ap (λ (x : Parsed Request). x .requests) (parse-step q at ∙ ap (onReading (parseFrom q) at) (sym e)) ∙ n);
         rest = m .rest;
         same = m .same;
+        untouched = λ u. m .untouched u .0;
       }
 
   pub midway-end : {x : Record} → meaning x ≡ readAt q at → x ≡ Over → Runs z s₀ s (parseFrom q at₀ .requests) p₀ p out₀ out

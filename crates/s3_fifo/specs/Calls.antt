@@ -6,8 +6,9 @@ use Prim.Native.Nat.{ℕ, _≤_, _<_}
 use lib.ListN.{length, drop}
 use Rattle.nodes.specs.Nodes.{used}
 use Rattle.rules.specs.State.{State}
-use Rattle.rules.specs.Refusals.{numberOf, detailOf}
-use Rattle.rules.specs.Refusals.{storeBytes}
+use Rattle.rules.specs.Records.{AllPeeks}
+use Rattle.rules.specs.Bytes.{parse}
+use Rattle.rules.specs.Refusals.{numberOf, detailOf, storeBytes}
 use Rattle.rules.specs.Verdict.{Verdict, refused, done, create, Reads, short, damaged, reads, call}
 use Rattle.sizing.specs.declared.Settings.{Settings}
 use Rattle.store.specs.Holds.{shapeFor, Holds}
@@ -50,8 +51,10 @@ Follows (done σ bs) a s s′ p p′ = (a ≡ gave (length bs)) × Settled s s�
 pub record Created (settings : Settings) (s : List ℕ) (r : Creation) (s′ : List ℕ) : Type 0 where
   pub leaves : Follows (create (settings .capacity) (settings .«small_ratio») (settings .«ghost_ratio») (length s)) (createdSays r) s s′ [] []
 
--- a call: store, requests and replies before; the answer, the store and the replies after
+-- a call: store, requests and replies before; the answer, the store and the replies after; a call of peeks alone, or of no request, changes no byte of the
+-- store
 pub record Called (s q p : List ℕ) (r : Ran) (s′ p′ : List ℕ) : Type 0 where
   pub store : Reads
   pub store-is : ReadsAs s store
   pub leaves : Follows (call store q (length p)) (ranSays r) s s′ p p′
+  pub untouched : AllPeeks (parse q .requests) → s′ ≡ s

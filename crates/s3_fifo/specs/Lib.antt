@@ -1,3 +1,5 @@
 pub mod Runs
 pub mod Calls
+pub mod Once
 pub mod Chains
+pub mod Promises

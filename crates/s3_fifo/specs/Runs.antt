@@ -6,13 +6,14 @@ use Prim.Native.Nat.{ℕ}
 use lib.ListN.{length}
 use Rattle.nodes.specs.Nodes.{Rest, cols}
 use Rattle.nodes.specs.declared.Shape.{Shape}
-use Rattle.rules.specs.Records.{Request}
+use Rattle.rules.specs.Records.{Request, AllPeeks}
 use Rattle.wire.specs.CarriedOut.{CarriedOut}
 use Rattle.store.specs.Holds.{stateIn, Held}
 
--- rs were carried out on the store s, which became s′, and on the buffer p, which became p′, from `out` to r
+-- rs were carried out on the store s, which became s′, and on the buffer p, which became p′, from `out` to r; peeks alone change no byte of the store
 pub record Runs (z : Shape) (s s′ : List ℕ) (rs : List Request) (p p′ : List ℕ) (out r : ℕ) : Type 0 where
   pub held : Held z s′
   pub carried : CarriedOut (stateIn z s) (stateIn z s′) rs p p′ out r
   pub rest : cols z s′ Rest ≡ cols z s Rest
   pub same : length s′ ≡ length s
+  pub untouched : AllPeeks rs → s′ ≡ s

@@ -1,14 +1,15 @@
 -- The rounding is the only number that 01's inequality allows; and so it is from the bits.
 -- Assumes nothing.
 use mathlib.Core.Path.{_≡_, sym, _∙_}
-use Prim.Native.Nat.{ℕ, _+_, _*_, _^_, _≤_, _<_}
+use Prim.Native.Nat.{ℕ, _^_, _<_}
 use native.Mathlib.Omega.{arith}
 use lib.Pow.{pow-pos}
 use lib.Ieee.{Float, binary64, ofBits}
 use lib.Ieee.Positive.{num, den, den-pos}
 use Rattle.rules.specs.Sizing.{halfUp, nearest, Nearest}
 use Rattle.sizing.proofs.RoundLaws.{is, only}
-use Rattle.sizing.proofs.PatternsLaws.{endless, no-number, number, negative, units, field, digits, read-bits, nearest-value}
+use Rattle.sizing.specs.NearestBits.{negative, field, digits, units, endless, no-number, number, NearestBits}
+use Rattle.sizing.proofs.PatternsLaws.{read-bits, nearest-value}
 
 -- 2c - 1 <= 2p < 2c + 1 holds at the rounding
 pub nearest-is : (p : Float) → Nearest p (nearest p)
@@ -20,12 +21,6 @@ pub nearest-only : (p : Float) (c : ℕ) → Nearest p c → c ≡ nearest p
 unfolding nearest
 nearest-only p c h = only (num p) (den p) c (h .low) (h .high)
 
--- the same of a finite p, with p read exactly from its bits b: so many units of 2 ^ -1074, by the exponent's field and the digits
--- (`PatternsLaws.read-bits` says that these are p)
-pub record NearestBits (b c : ℕ) : Type 0 where
-  pub low : 2 * c * 2 ^ 1074 ≤ 2 * units (field b) (digits b) + 2 ^ 1074
-  pub high : 2 * units (field b) (digits b) < (2 * c + 1) * 2 ^ 1074
-
 rounded : (b : ℕ) → field b < 2047 → nearest (ofBits binary64 b) ≡ halfUp (units (field b) (digits b)) (2 ^ 1074)
 rounded b h = elim (read-bits b) [
   | endless x e ↦ absurd (omega arith)
@@ -33,6 +28,7 @@ rounded b h = elim (read-bits b) [
   | number x v ↦ nearest-value (ofBits binary64 b) (negative b) (units (field b) (digits b)) v
 ]
 
+-- the same with the number read from the bits
 pub nearest-bits : (b : ℕ) → field b < 2047 → NearestBits b (nearest (ofBits binary64 b))
 nearest-bits b h =
     let k = is (units (field b) (digits b)) (2 ^ 1074) (pow-pos 1074) in

@@ -2,7 +2,7 @@
 -- Assumes nothing.
 use mathlib.Core.Path.{_≡_, refl, sym, ap, _∙_, subst}
 use mathlib.Core.Bool.{Bool, true, false, not, cond}
-use Prim.Native.Nat.{ℕ, zero, suc, _+_, _-_, _*_, _/_, _%_, _^_, _≤_, _<_, min}
+use Prim.Native.Nat.{ℕ, zero, suc, _+_, _-_, _*_, _/_, _^_, _≤_, _<_, min}
 use native.Mathlib.Nat.{mul-one, div-le-self, min-eq-left, min-eq-right, le-of-suc-le-suc}
 use native.Mathlib.Omega.{arith}
 use lib.Dec.{T, leb, eqb, leb→le, nleb→lt, eqb→eq, lit<}
@@ -16,29 +16,10 @@ use lib.Ieee.Compare.{differs-from-itself}
 use borrow.Author.Tests.{le-leb, lt-leb}
 use Rattle.rules.specs.Sizing.{badRatio, nearest, halfUp}
 use Rattle.sizing.specs.Cut.{cut}
+use Rattle.sizing.specs.NearestBits.{negative, field, digits, units, BitsRead, endless, no-number, number}
 use Rattle.sizing.proofs.RoundLaws.{same, low, high, middle}
 
 -- ---- a pattern's fields, and the number that they stand for
-
-abbrev pub negative : ℕ → Bool
-negative b = leb (2 ^ 63) b
-
-abbrev pub field : ℕ → ℕ
-field b = b % 2 ^ 63 / 2 ^ 52
-
-abbrev pub digits : ℕ → ℕ
-digits b = b % 2 ^ 52
-
--- the size in units of 2 ^ -1074, by the exponent's field and the digits
-abbrev pub units : ℕ → ℕ → ℕ
-units zero t = t
-units (suc j) t = (2 ^ 52 + t) * 2 ^ j
-
--- what sign, exponent's field and digits stand for
-pub data BitsRead (s : Bool) (x t : ℕ) (v : Float) : Type 0 where
-  endless : x ≡ 2047 → v ≡ inf s → BitsRead s x t v
-  no-number : x ≡ 2047 → v ≡ nan → BitsRead s x t v
-  number : x < 2047 → HasValue v s (units x t) (2 ^ 1074) → BitsRead s x t v
 
 read : (s : Bool) (x t : ℕ) → x < 2048 → BitsRead s x t (ofFields binary64 s x t)
 unfolding ofFields

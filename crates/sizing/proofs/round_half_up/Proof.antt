@@ -5,7 +5,8 @@ use native.Mathlib.Omega.{arith}
 use Prim.Native.Nat.{_+_, _-_, _^_}
 use lib.Ieee.{binary64, toBits}
 use borrow.Author.Needs.{needs}
-use Rattle.sizing.proofs.PatternsLaws.{field, digits, cut-low, cut-high, cut-middle}
+use Rattle.sizing.specs.NearestBits.{field, digits}
+use Rattle.sizing.proofs.PatternsLaws.{cut-low, cut-high, cut-middle}
 use Rattle.sizing.proofs.round_half_up.Statement.{statement}
 use Rattle.sizing.proofs.round_half_up.Tie as tie
 

@@ -1,0 +1,148 @@
+-- The theorem behind crates/mapcache/specs/Exported.antt.
+-- Assumes nothing.
+use mathlib.Core.Path.{_≡_, refl, sym, ap, ap₂, _∙_, subst}
+use mathlib.Core.Bool.{Bool, true, false, cond, _||_}
+use mathlib.Core.List.{List, []}
+use Prim.Native.Nat.{ℕ, zero, suc, _≤_}
+use native.Mathlib.Omega.{arith}
+use lib.Dec.{eqb, ltb}
+use lib.ListN.{length}
+use lib.IntN.{ℤ, pos, negsuc, negℤ}
+use lib.Ieee.{Float, lt}
+use Rattle.rules.specs.declared.Turned.{Turned}
+use Rattle.rules.specs.declared.Turned.the-variants.{NoCapacity, CapacityAbove, SmallRatio, GhostRatio, GhostLimit}
+use Rattle.rules.specs.declared.Turned.the-variants.{ShortStore, DamagedStore, LongRequests, BadRecord, NoRoom}
+use Rattle.rules.specs.State.{most, emptyAt}
+use Rattle.rules.specs.Sizing.{Sized, limits, refused as misfit, product, badRatio, unit, beyond, sizingUpTo, sizing}
+use Rattle.rules.specs.Refusals.{numberOf, storeBytes}
+use Rattle.rules.specs.Verdict.{done, turnedAway, onSized, create}
+use Rattle.sizing.specs.declared.Settings.{Settings}
+use Rattle.s3_fifo.specs.declared.Creation.{Creation}
+use Rattle.s3_fifo.specs.declared.Creation.the-variants.{Made, Refused as NotMade}
+use Rattle.s3_fifo.specs.declared.Ran.{Ran}
+use Rattle.s3_fifo.specs.declared.Ran.the-variants.{Done, Refused}
+use Rattle.s3_fifo.specs.Calls.{Said, gave, turned, createdSays, ranSays, Follows, Created}
+use Rattle.s3_fifo.specs.Once.{Agrees}
+use Rattle.s3_fifo.proofs.OnceLaws as once
+use Rattle.mapcache.specs.Codes.{codeOf, detailIn, CreatedAs, CalledAs}
+use Rattle.mapcache.specs.Exported.{Negative, OneOutcome, Exported}
+
+-- ---- what a code and a detail say
+
+abbrev above : ℤ → ℕ
+above (pos n) = n
+above (negsuc n) = 0
+
+abbrev below : ℤ → ℕ
+below (pos n) = 0
+below (negsuc n) = suc n
+
+below-minus : (n : ℕ) → below (negℤ (pos n)) ≡ n
+below-minus zero = refl
+below-minus (suc n) = refl
+
+-- a refusal has a number
+abbrev Numbered : Said → Type 0
+Numbered (gave n) = Unit {0}
+Numbered (turned n d) = 1 ≤ n
+
+code-once : (a b : Said) → Numbered a → Numbered b → codeOf a ≡ codeOf b → detailIn a ≡ detailIn b → a ≡ b
+code-once (gave n) (gave m) h g e d = ap gave (ap above e)
+code-once (gave n) (turned m f) h g e d = absurd (omega (arith, ap below e, below-minus m))
+code-once (turned n d) (gave m) h g e f = absurd (omega (arith, ap below e, below-minus n))
+code-once (turned n d) (turned m f) h g e k = ap₂ turned (sym (below-minus n) ∙ ap below e ∙ below-minus m) k
+
+some-number : (t : Turned) → 1 ≤ numberOf t
+some-number NoCapacity = omega arith
+some-number CapacityAbove = omega arith
+some-number SmallRatio = omega arith
+some-number GhostRatio = omega arith
+some-number GhostLimit = omega arith
+some-number ShortStore = omega arith
+some-number DamagedStore = omega arith
+some-number LongRequests = omega arith
+some-number (BadRecord at) = omega arith
+some-number (NoRoom room) = omega arith
+
+numbered-ran : (r : Ran) → Numbered (ranSays r)
+numbered-ran (Done n) = tt
+numbered-ran (Refused t) = some-number t
+
+numbered-created : (r : Creation) → Numbered (createdSays r)
+numbered-created Made = tt
+numbered-created (NotMade t) = some-number t
+
+called-apart : (r t : Ran) → codeOf (ranSays r) ≡ codeOf (ranSays t) → detailIn (ranSays r) ≡ detailIn (ranSays t) → r ≡ t
+called-apart r t e d = once.ran-once r t (code-once (ranSays r) (ranSays t) (numbered-ran r) (numbered-ran t) e d)
+
+-- ---- a creation is refused without a detail
+
+abbrev PlainSized : Sized → Type 0
+PlainSized (limits L) = Unit {0}
+PlainSized (misfit n d) = d ≡ 0
+
+either : (t : Bool) (x y : Sized) → PlainSized x → PlainSized y → PlainSized (cond t x y)
+either true x y h g = h
+either false x y h g = g
+
+plain-sizing : (z : ℕ) (a g : Float) → PlainSized (sizing z a g)
+unfolding sizingUpTo
+plain-sizing z a g =
+    either (eqb z 0) _ _ refl
+    (either (ltb most z) _ _ refl
+    (either (badRatio a || lt unit a) _ _ refl
+    (either (badRatio g) _ _ refl
+    (either (beyond most (product z g)) _ _ refl tt))))
+
+plain-follows : (a : Said) (v : Sized) (s s′ : List ℕ) → PlainSized v → Follows (onSized (length s) v) a s s′ [] [] → detailIn a ≡ 0
+plain-follows a (misfit n d) s s′ h f = ap detailIn (f .0) ∙ h
+plain-follows a (limits L) s s′ h f = pick (ltb (length s) storeBytes) f
+  where
+    pick : (t : Bool) → Follows (cond t (turnedAway ShortStore) (done (emptyAt L) [])) a s s′ [] [] → detailIn a ≡ 0
+    pick true g = ap detailIn (g .0)
+    pick false g = ap detailIn (g .0)
+
+plain : {g : Settings} {s s′ : List ℕ} (r : Creation) → Created g s r s′ → detailIn (createdSays r) ≡ 0
+unfolding create
+plain {g} {s} {s′} r c =
+    plain-follows (createdSays r) (sizing (g .capacity) (g .«small_ratio») (g .«ghost_ratio»)) s s′
+    (plain-sizing (g .capacity) (g .«small_ratio») (g .«ghost_ratio»)) (c .leaves)
+
+created-apart : {g h : Settings} {s₁ s₂ t₁ t₂ : List ℕ} (r t : Creation) → Created g s₁ r s₂ → Created h t₁ t t₂
+    → codeOf (createdSays r) ≡ codeOf (createdSays t) → r ≡ t
+created-apart r t c d e =
+    once.creation-once r t (code-once (createdSays r) (createdSays t) (numbered-created r) (numbered-created t) e (plain r c ∙ sym (plain t d)))
+
+-- ---- one outcome
+
+refused-bytes : (a : Said) {m : ℤ} {s₁ s₂ : List ℕ} → m ≡ codeOf a → Agrees a s₁ s₂ → Negative m → s₁ ≡ s₂
+refused-bytes (gave n) e g h = absurd (subst Negative e h)
+refused-bytes (turned n d) e g h = g .refused-same n d refl
+
+created-once : {capacity : ℕ} {small ghost : Float} {s s₁ s₂ : List ℕ} {m n : ℤ} → CreatedAs capacity small ghost s m s₁
+    → CreatedAs capacity small ghost s n s₂ → OneOutcome m n 0 0 s₁ s₂ [] []
+created-once c d =
+    let o = once.created-once (c .answer) (d .answer) (c .created) (d .created) in
+    record {
+      code = c .code-is ∙ ap (λ (r : Creation). codeOf (createdSays r)) (o .answer) ∙ sym (d .code-is);
+      detail = refl;
+      replies = refl;
+      refused-same = refused-bytes (createdSays (c .answer)) (c .code-is) (o .stores);
+      said = createdSays (c .answer);
+      stores = o .stores;
+    }
+
+called-once : {s q p s₁ s₂ p₁ p₂ : List ℕ} {m n : ℤ} {d e : ℕ} → CalledAs s q p m d s₁ p₁ → CalledAs s q p n e s₂ p₂ → OneOutcome m n d e s₁ s₂ p₁ p₂
+called-once c d =
+    let o = once.called-once (c .answer) (d .answer) (c .called) (d .called) in
+    record {
+      code = c .code-is ∙ ap (λ (r : Ran). codeOf (ranSays r)) (o .answer) ∙ sym (d .code-is);
+      detail = c .detail-is ∙ ap (λ (r : Ran). detailIn (ranSays r)) (o .answer) ∙ sym (d .detail-is);
+      replies = o .replies;
+      refused-same = refused-bytes (ranSays (c .answer)) (c .code-is) (o .stores);
+      said = ranSays (c .answer);
+      stores = o .stores;
+    }
+
+pub exported : Exported
+exported = record { created-once = created-once; called-once = called-once; created-apart = created-apart; called-apart = called-apart }

@@ -1,0 +1,37 @@
+-- What the exported calls promise: what crates/s3_fifo/specs/Promises.antt says of the calls below them, in the numbers that C sees. `exported`
+-- (proofs/ExportedLaws.antt) gives it. Chains of calls need nothing of their own: each outcome of an exported call is one of the call below it.
+-- Assumes nothing.
+use mathlib.Core.Path.{_≡_}
+use mathlib.Core.List.{List, []}
+use Prim.Native.Nat.{ℕ}
+use lib.IntN.{ℤ, pos, negsuc}
+use lib.Ieee.{Float}
+use Rattle.sizing.specs.declared.Settings.{Settings}
+use Rattle.s3_fifo.specs.declared.Creation.{Creation}
+use Rattle.s3_fifo.specs.declared.Ran.{Ran}
+use Rattle.s3_fifo.specs.Calls.{Said, createdSays, ranSays, Created}
+use Rattle.s3_fifo.specs.Once.{Agrees}
+use Rattle.mapcache.specs.Codes.{codeOf, detailIn, CreatedAs, CalledAs}
+
+abbrev pub Negative : ℤ → Type 0
+Negative (pos n) = ⊥
+Negative (negsuc n) = Unit {0}
+
+-- two outcomes of one call: codes, details, stores and replies; below 0 the stores are the same bytes
+pub record OneOutcome (m n : ℤ) (d e : ℕ) (s₁ s₂ p₁ p₂ : List ℕ) : Type 0 where
+  pub code : m ≡ n
+  pub detail : d ≡ e
+  pub replies : p₁ ≡ p₂
+  pub refused-same : Negative m → s₁ ≡ s₂
+  pub said : Said
+  pub stores : Agrees said s₁ s₂
+
+pub record Exported : Type 0 where
+  -- a call has one outcome
+  pub created-once : {capacity : ℕ} {small ghost : Float} {s s₁ s₂ : List ℕ} {m n : ℤ} → CreatedAs capacity small ghost s m s₁
+      → CreatedAs capacity small ghost s n s₂ → OneOutcome m n 0 0 s₁ s₂ [] []
+  pub called-once : {s q p s₁ s₂ p₁ p₂ : List ℕ} {m n : ℤ} {d e : ℕ} → CalledAs s q p m d s₁ p₁ → CalledAs s q p n e s₂ p₂ → OneOutcome m n d e s₁ s₂ p₁ p₂
+  -- no two answers share number and detail, so that a host knows why it was turned away; of a creation the number is enough
+  pub created-apart : {g h : Settings} {s₁ s₂ t₁ t₂ : List ℕ} (r t : Creation) → Created g s₁ r s₂ → Created h t₁ t t₂
+      → codeOf (createdSays r) ≡ codeOf (createdSays t) → r ≡ t
+  pub called-apart : (r t : Ran) → codeOf (ranSays r) ≡ codeOf (ranSays t) → detailIn (ranSays r) ≡ detailIn (ranSays t) → r ≡ t

@@ -222,7 +222,7 @@ def refusal_7():
     open_byte(24, [MEMORY], [0])             # header cell 3
     open_byte(64, [MEMORY] * 64, range(64))  # header cells 8 to 15
     open_byte(184, [20], [99])               # the value of a ghost
-    open_byte(199, [0], [9])                 # the mark of a ghost
+    open_byte(199, [0], [9])                 # the frequency of a ghost
     open_byte(172, [255, 255], [9, 0])       # another number that ends a chain
     for byte in (0, 255, 1):
         fill(byte)

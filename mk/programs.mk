@@ -2,7 +2,7 @@
 #
 #   make replay-cases    pipes the recorded cases through the replay program and compares byte for byte
 #   make replay-streams  the program on slow, long and broken streams
-#   make calls           writes the calls with document 01's answers anew (tools/make_calls.py)
+#   make calls           writes the calls with the rules' answers anew (tools/make_calls.py)
 
 .PHONY: replay-cases replay-streams calls
 

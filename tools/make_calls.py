@@ -1,12 +1,12 @@
 #!/usr/bin/env python3
-"""Writes recorded calls with what document 01 says of each: make_calls.py STEPS CASES
+"""Writes recorded calls with what the rules say of each (docs/RULES.md): make_calls.py STEPS CASES
 
 STEPS (crates/recorded/data/calls.bin) is for the program `recorded` and for the hosts' tests in C and Rust: steps on one store,
 each with 32 bytes in front (kind, store bytes lent, reply room, number; lengths of input and output; detail), input and output.
 CASES is for the replay program, written when it is tested: lengths of input and output, settings and requests, and what the
 program must write. This is the one table of refused calls: a new refusal gets its cases here.
 
-The answers are written out here by hand from the document. Nothing is asked of the library, and no rule is worked out.
+The answers are written out here by hand from that page. Nothing is asked of the library, and no rule is worked out.
 """
 import struct
 import sys
@@ -222,7 +222,7 @@ def refusal_7():
     open_byte(24, [MEMORY], [0])             # header cell 3
     open_byte(64, [MEMORY] * 64, range(64))  # header cells 8 to 15
     open_byte(184, [20], [99])               # the value of a ghost
-    open_byte(199, [0], [9])                 # the mark of a ghost
+    open_byte(199, [0], [9])                 # the frequency of a ghost
     open_byte(172, [255, 255], [9, 0])       # another number that ends a chain
     for byte in (0, 255, 1):
         fill(byte)

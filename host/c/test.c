@@ -209,7 +209,7 @@ static void clear_and_largest(void)
     free(s.bytes);
 }
 
-/* ---- recorded steps: what tools/make_calls.py has from the scope document, whichever refusals those are */
+/* ---- recorded steps: what tools/make_calls.py has from docs/RULES.md, whichever refusals those are */
 
 enum { FILL, LAY, CREATE, RUN };
 #define STEP_BYTES 32

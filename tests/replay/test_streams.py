@@ -16,7 +16,7 @@ from make_calls import CL, EV, IN, MOST_REQUEST_BYTES, OK, no, settings  # noqa:
 
 REPLAY = os.environ["REPLAY"]
 
-# trace A, and its answer as document 01 writes it out
+# trace A, and its answer as RULES 10 writes it out
 TRACE = settings(1) + IN(7, 70) + IN(8, 80) + IN(7, 71)
 ANSWER = bytes.fromhex(
     "4E57" + "00" * 8

@@ -203,6 +203,42 @@ class Tidy(unittest.TestCase):
         self.assertEqual(self.report({"crates/top/src/lib.rt": added})[0], 0)
         self.expect({**listed, "crates/top/src/lib.rt": added}, "crates/top/src/lib.rt:8: `pool::` is named above `store`")
 
+    def test_a_rule_that_is_cited_and_not_there(self):
+        """Sections are cited in any text, also over a line's end; numbers are put together here so that this file cites none."""
+        rules = "# Rules\n\n## 1. The state\n\n### 1.2 When it is sound\n\n## 12. Amendments\n"
+        cited = f"Twice (RULES {1}, RULES {12}.\nSee RULES\n{1.2}.\n"
+        self.assertEqual(self.report({"docs/RULES.md": rules, "docs/NOTES.md": cited}), (0, ["tidy: ok"]))
+        path = "crates/low/specs/Twos.antt"
+        self.expect(
+            {"docs/RULES.md": rules, "docs/NOTES.md": f"See RULES {2},\nRULES {1.3} and RULES\n{11}.\n", path: f"-- as RULES\n-- {1.2}.1 says\n"},
+            f"{path}:10: docs/RULES.md has no section 1.2.1",
+            "docs/NOTES.md:1: docs/RULES.md has no section 2",
+            "docs/NOTES.md:2: docs/RULES.md has no section 1.3",
+            "docs/NOTES.md:2: docs/RULES.md has no section 11",
+        )
+
+    def test_rules_are_cited_and_there_are_none(self):
+        self.expect({"mk/run.mk": f"# RULES {1}\n"}, "mk/run.mk:1: docs/RULES.md has no section 1")
+
+    def test_the_paper_is_cited(self):
+        end = "cites a paper that is not here; docs/RULES.md has the rules"
+        path, paper = "crates/low/src/lib.rt", "01"
+        self.expect(
+            {path: f"// Doubling ({paper}, \"Twos\").\n", "Makefile": f"# as document {paper} says\n# in {paper}'s table\n# 4E 57 {paper} 00\n"},
+            f"Makefile:1: `document {paper}` {end}",
+            f"Makefile:2: `{paper}'s` {end}",
+            f"{path}:19: `({paper},` {end}",
+        )
+
+    def test_what_is_no_text_is_not_read(self):
+        with tempfile.TemporaryDirectory() as root:
+            plant(root, CLEAN)
+            for place in ("target", ".git"):
+                plant(root, {f"{place}/notes": f"RULES {1}\n"})
+            with open(os.path.join(root, "data.bin"), "wb") as file:
+                file.write(b"\xff\xfe RULES" + b" 1\n")
+            self.assertEqual(run(root), (0, ["tidy: ok"]))
+
 
 if __name__ == "__main__":
     unittest.main()

@@ -1,4 +1,4 @@
-// Eviction on the store (01, "Eviction"; port order 7): the pop of a queue's tail, one step, and steps until a pair has left. The pops are counted by
+// Eviction on the store (RULES 4): the pop of a queue's tail, one step, and steps until a pair has left. The pops are counted by
 // walking.
 ghost use mathlib.Core.Path.{_≡_};
 ghost use Prim.Native.Nat.{_≤_, _<_};

@@ -1,4 +1,4 @@
-// The ghost list on the store (01, "Recording a ghost"; port order 5): the original's `record`, `remove`, `evict_lru` and `clear`, each with what it
+// The ghost list on the store (RULES 3): the original's `record`, `remove`, `evict_lru` and `clear`, each with what it
 // gives back. Keys are found by the index, and a key that moves to the front touches its neighbours only.
 ghost use mathlib.Core.Path.{_≡_};
 ghost use Prim.Native.Nat.{_≤_};

@@ -1,4 +1,4 @@
--- What an operation on a ghost list by itself comes to, and what it answers, by the rules (01, "Recording a ghost").
+-- What an operation on a ghost list by itself comes to, and what it answers, by the rules (RULES 3).
 -- Assumes nothing.
 use mathlib.Core.Path.{_≡_}
 use mathlib.Core.Bool.{Bool, true, false, cond}

@@ -1,4 +1,4 @@
-// Drives the ghost list by itself (01, "Recording a ghost"; port order 5) through what the original's `GhostList` was asked, and prints what each call gives
+// Drives the ghost list by itself (RULES 3) through what the original's `GhostList` was asked, and prints what each call gives
 // back, to be compared with what the original gave back. The cache relinks a leaving pair's node, so nothing else calls `record` and `remove` by a key.
 // Standard input is a run of records, a letter and a number of 8 bytes, least significant first: N and a limit, for a new list; R and a key, record; D and a
 // key, remove; E, evict_lru; C, clear. A line is printed for each. At a record that is cut or has another letter, whose limit is too large, or before which

@@ -1,5 +1,5 @@
 // The key index of bounded size: which live node holds a key. It stands for the original's hash map,
-// in lent memory: a head for each bucket, and in each node a link to the next of its bucket.
+// in lent memory (RULES 1.3): a head for each bucket, and in each node a link to the next of its bucket.
 ghost use mathlib.Core.Path.{_≡_};
 ghost use Prim.Native.Nat.{_≤_, _<_};
 ghost use Rattle.cells.specs.Decides.{Decides, All};

@@ -1,7 +1,7 @@
-// The four lists of the store: Free, Small, Main and Ghosts, so that every slot is in one of them (port
-// order 3 and 6: the slot pool, and queue attach, detach and pop). Each is circular and doubly linked,
-// with a sentinel of its own behind the nodes, so that attach and detach have no branch. A node's field
-// Queue is its list's number, and the header keeps the lists' lengths.
+// The four lists of the store: Free, Small, Main and Ghosts, so that every slot is in one of them
+// (RULES 1.3). Each is circular and doubly linked, with a sentinel of its own behind the nodes, so
+// that attach and detach have no branch. A node's field Queue is its list's number, and the header
+// keeps the lists' lengths.
 ghost use Prim.Native.Nat.{_+_, _<_};
 ghost use Rattle.cells.specs.Decides.{Decides, All};
 ghost use Rattle.nodes.specs.Nodes.{Field, cols, Room, GetsField};

@@ -1,4 +1,4 @@
-// The library that hosts link (01, "When a call is turned away"): the cache's calls for C. A slice is a pointer and a length; an answer is one number,
+// The library that hosts link (RULES 7): the cache's calls for C. A slice is a pointer and a length; an answer is one number,
 // the reply bytes or minus the refusal's number, and the refusal's detail goes out beside it. Each function states what the call below it states.
 ghost use mathlib.Core.Path.{_≡_};
 ghost use lib.IntN.{pos, negℤ};

@@ -1,6 +1,6 @@
 // The store's cells: one function to read and one to write each field. A header of sixteen numbers,
 // then nodes of 24 bytes with four sentinels behind them, then the heads of the buckets, all in one
-// lent slice of bytes (the fixed memory of the port). A contract here speaks of columns alone, so
+// lent slice of bytes (RULES 1.3; docs/STORE.md). A contract here speaks of columns alone, so
 // that nothing above sees a byte.
 ghost use Prim.Native.Nat.{_+_, _<_};
 ghost use Rattle.nodes.specs.Nodes.{Field, Room, SetsField, GetsField};

@@ -1,4 +1,4 @@
-// The slot pool with its free list (port order 3): the lists and the key index joined. Every node is in
+// The slot pool with its free list (RULES 1.3): the lists and the key index joined. Every node is in
 // one of the four lists at all times, so a freed slot is used again, and those that are not free are
 // found by their keys. These are all the ways in which a node changes its list.
 ghost use Prim.Native.Nat.{_<_};

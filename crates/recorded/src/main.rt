@@ -1,4 +1,4 @@
-// Recorded runs (01, "Traces A to H" and "When a call is turned away"): replays files of recorded calls over the library, and says of each file how
+// Recorded runs (RULES 8, RULES 10): replays files of recorded calls over the library, and says of each file how
 // many gave what is written there. The last argument names a file of steps, those before it files of cases.
 // A case: lengths of input and output, 4 bytes each; the input, which is settings and requests; the output, which is their replies on a fresh store.
 // A step: what `Step` has, in 32 bytes; input; output. All steps of a file work on one store.

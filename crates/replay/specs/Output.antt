@@ -1,4 +1,4 @@
--- What the program writes for what it reads: the verdict on its input, and the verdict as bytes.
+-- What the program writes for what it reads (RULES 9): the verdict on its input, and the verdict as bytes.
 -- Assumes nothing.
 use mathlib.Core.Path.{_≡_}
 use mathlib.Core.List.{List, _++_}

@@ -1,4 +1,4 @@
-// The replay program (01, "Marks and bytes"): settings and requests from standard input, replies or one NO record to standard output, in binary.
+// The replay program (RULES 9): settings and requests from standard input, replies or one NO record to standard output, in binary.
 // What it writes for an input is one function over slices with its contract, `reply_to`; the rest reads and writes.
 ghost use mathlib.Core.Path.{_≡_};
 ghost use Prim.Native.Nat.{_-_, _≤_};

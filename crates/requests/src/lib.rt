@@ -1,4 +1,4 @@
-// The requests on the store (01, "The rules"; port order 8): lookup, peek, remove, insert, evict_one and clear, each with the replies that the rules
+// The requests on the store (RULES 5): lookup, peek, remove, insert, evict_one and clear, each with the replies that the rules
 // give it. A key is looked up once a request. No request fails on a store that holds a sound state, and no number stands for "none".
 ghost use mathlib.Core.Path.{_≡_};
 ghost use mathlib.Core.List.{[], _∷_};

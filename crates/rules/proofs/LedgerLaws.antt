@@ -1,4 +1,4 @@
--- Demand 3: nothing leaves untold.
+-- Demand 3: nothing leaves untold (RULES 11).
 -- Assumes nothing.
 use Prim.Native.Nat.{ℕ, _+_, _≤_}
 use native.Mathlib.Omega.{arith}

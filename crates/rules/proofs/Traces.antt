@@ -1,5 +1,5 @@
--- The worked rows of document 01 under a single statement: the sizing table, and the traces A to H from the settings that each starts with, with one
--- more for its last slip.
+-- The worked rows of the rules under a single statement: the sizing table (RULES 2.3), and the traces A to H (RULES 10) from the settings that each starts
+-- with, with one more for key 0 and value 0.
 -- Assumes nothing.
 use mathlib.Core.Path.{_≡_, refl}
 use mathlib.Core.Bool.{false}
@@ -76,7 +76,7 @@ playedAll v (t ∷ ts) = played v t ∷ playedAll (played v t) ts
 abbrev pub shouldBe : Trace → Verdict State
 shouldBe t = done (t .after) (t .told)
 
--- ---- the rows of document 01
+-- ---- the rows of RULES 10
 
 abbrev defaults : ℕ → Start
 defaults c = settings c (dec 1 1) (dec 9 1)

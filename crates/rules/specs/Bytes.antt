@@ -1,4 +1,4 @@
--- Requests and replies as bytes: marks, numbers, the one table, and the records of a run of bytes (01, "Marks and bytes").
+-- Requests and replies as bytes: marks, numbers, the one table, and the records of a run of bytes (RULES 6).
 -- A number is 8 bytes, least significant first: `le 8 s at` is the one that stands at an offset, `bytesOf 8 v` is how v is written.
 -- Assumes nothing.
 use Prim.Native.Nat.{ℕ, suc, zero, _+_, _-_, _/_, _%_}

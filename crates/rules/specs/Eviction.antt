@@ -1,4 +1,4 @@
--- Eviction: one step, and steps until a pair has left (01, "Eviction").
+-- Eviction: one step, and steps until a pair has left (RULES 4).
 -- Assumes nothing.
 use Prim.Native.Nat.{ℕ, suc, zero, _≤_}
 use mathlib.Core.Bool.{Bool, cond, _||_}

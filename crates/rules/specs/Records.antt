@@ -1,4 +1,4 @@
--- Requests and replies, before they are bytes (01, "Marks and bytes").
+-- Requests and replies, before they are bytes (RULES 6).
 -- Assumes nothing.
 use Prim.Native.Nat.{ℕ, _<_}
 use mathlib.Core.List.{List, [], _∷_, _++_}

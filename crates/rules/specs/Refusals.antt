@@ -1,4 +1,4 @@
--- The table of refusals (01, "When a call is turned away"): the number and the detail for each case of the code's enum, and when each applies.
+-- The table of refusals (RULES 8.1): the number and the detail for each case of the code's enum, and when each applies.
 -- Rows 1 to 5 are sizing's (`sizingUpTo`); 7 applies where a store holds no state.
 -- Assumes nothing.
 use Prim.Native.Nat.{ℕ}

@@ -1,4 +1,4 @@
--- What each request does (01, "The rules").
+-- What each request does (RULES 5).
 -- Assumes nothing.
 use Prim.Native.Nat.{ℕ}
 use mathlib.Core.Bool.{Bool, true, false, cond}

@@ -1,4 +1,4 @@
--- What sizing means: from a capacity and two ratios to the limits, or to a refusal by its number (01, "Sizing" and refusals 1 to 5).
+-- What sizing means: from a capacity and two ratios to the limits, or to a refusal by its number (RULES 2, and the refusals 1 to 5 of RULES 8.1).
 -- A float is lib.Ieee's: `fin s m e` is m * 2 ^ e exactly, with its sign apart, and num / den is its size as a fraction of two whole numbers.
 -- Assumes nothing.
 use mathlib.Core.Bool.{Bool, true, false, not, _&&_, _||_, cond}
@@ -29,7 +29,7 @@ unfoldable pub nearest : Float → ℕ
 unfolding halfUp
 nearest p = halfUp (num p) (den p)
 
--- 2c - 1 <= 2p < 2c + 1, with p = num p / den p, over whole numbers: what 01 fixes c by
+-- 2c - 1 <= 2p < 2c + 1, with p = num p / den p, over whole numbers: what fixes c (RULES 2.2)
 pub record Nearest (p : Float) (c : ℕ) : Type 0 where
   pub low : 2 * c * den p ≤ 2 * num p + den p
   pub high : 2 * num p < (2 * c + 1) * den p

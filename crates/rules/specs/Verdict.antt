@@ -1,4 +1,4 @@
--- The verdict on a whole call: what is turned away, in the order of 01's table, and what an accepted call gives.
+-- The verdict on a whole call: what is turned away, in the order of the table of refusals (RULES 8.2), and what an accepted call gives (RULES 7).
 -- Assumes nothing.
 use Prim.Native.Nat.{ℕ}
 use mathlib.Core.Bool.{cond}

@@ -1,4 +1,4 @@
--- Demand 3 over the calls: whatever outcomes satisfy the exported statements, from a creation on, accepted calls with refused ones between.
+-- Demand 3 (RULES 11) over the calls: whatever outcomes satisfy the exported statements, from a creation on, accepted calls with refused ones between.
 -- Assumes nothing.
 use mathlib.Core.Path.{_≡_, refl, sym, ap, ap₂, _∙_, subst}
 use mathlib.Core.Bool.{Bool, true, false, cond}

@@ -17,7 +17,7 @@ use Rattle.s3_fifo.specs.declared.Creation.the-variants.{Made, Refused a
 use Rattle.s3_fifo.specs.declared.Ran.{Ran}
 use Rattle.s3_fifo.specs.declared.Ran.the-variants.{Done, Refused}
 
--- an answer in the paper's terms: so many reply bytes; or turned away by a number, with a detail
+-- an answer in the rules' terms (RULES 7, RULES 8): so many reply bytes; or turned away by a number, with a detail
 pub data Said : Type 0 where
   gave : ℕ → Said
   turned : ℕ → ℕ → Said

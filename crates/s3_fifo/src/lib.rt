@@ -1,5 +1,5 @@
-// The mapping cache's whole calls (01, port order 10): creation, and running requests, as functions of the cache's own type. They ask nothing of their
-// caller: every byte that is lent is checked here, a call is turned away exactly in the cases of 01's table, and then no byte has changed.
+// The mapping cache's whole calls (RULES 7): creation, and running requests, as functions of the cache's own type. They ask nothing of their
+// caller: every byte that is lent is checked here, a call is turned away exactly in the cases of the table of refusals (RULES 8), and then no byte has changed.
 ghost use mathlib.Core.Path.{_≡_};
 ghost use Prim.Native.Nat.{_+_, _≤_};
 ghost use lib.ListN.{length};

@@ -1,4 +1,4 @@
-// The sizing table of document 01 and boundary settings, as CF records from standard input: a line for each
+// The sizing table (RULES 2.3) and boundary settings, as CF records from standard input: a line for each
 // record, to be compared with answers worked out from exact fractions (tools/make_sizes.py).
 use sizing::Read;
 use sizing::Sized;

@@ -1,4 +1,4 @@
--- Accepted limits are as the state asks of them (01, "The state"), and the capacity is the one that was asked for.
+-- Accepted limits are as a sound state has them (RULES 1.2), and the capacity is the one that was asked for.
 -- Assumes nothing.
 use mathlib.Core.Path.{_≡_, refl, sym}
 use mathlib.Core.Bool.{Bool, true, false, _||_, cond, true≢false}

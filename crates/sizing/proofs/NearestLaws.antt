@@ -1,4 +1,4 @@
--- The rounding is the only number that 01's inequality allows; and so it is from the bits.
+-- The rounding is the only number that the rule's inequality allows (RULES 2.2); and so it is from the bits.
 -- Assumes nothing.
 use mathlib.Core.Path.{_≡_, sym, _∙_}
 use Prim.Native.Nat.{ℕ, _^_, _<_}

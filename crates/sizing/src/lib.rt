@@ -1,5 +1,5 @@
 // Sizing: from settings to the limits of the queues, or to a refusal with its number; and settings read
-// from the bytes of CF. It serves "Sizing" and refusals 1 to 5 of document 01.
+// from the bytes of CF. It serves RULES 2, and of RULES 8 the refusals 1 to 5; CF is in RULES 9.
 ghost use mathlib.Core.Path.{_≡_};
 ghost use mathlib.Core.Bool.{not};
 ghost use Prim.Native.Nat.{_≤_, _<_, _+_, _^_};

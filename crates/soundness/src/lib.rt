@@ -1,4 +1,4 @@
-// The soundness check (port order 9; 01, "The state"): whether bytes that nobody vouches for hold a sound state. Both answers are proved right: no damaged
+// The soundness check (RULES 1.2, RULES 1.3): whether bytes that nobody vouches for hold a sound state. Both answers are proved right: no damaged
 // store passes, and no store that holds a state is turned away. It walks the whole store, so a call asks it once.
 ghost use Prim.Native.Nat.{_≤_, _<_};
 ghost use lib.ListN.{length};

@@ -1,4 +1,4 @@
-// The one door to a store (01, "The state"; docs/STORE.md): limits and lengths, where a key stands, the entry at a node, and the moves of a node, each
+// The one door to a store (RULES 1.3; docs/STORE.md): limits and lengths, where a key stands, the entry at a node, and the moves of a node, each
 // said in terms of the state that the store holds. The crates above call no crate below this one, and see no field: they hand over and get guest and
 // physical blocks, which are different types down to the field that is written.
 ghost use mathlib.Core.Path.{_≡_};

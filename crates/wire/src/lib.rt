@@ -1,4 +1,4 @@
-// Requests read from bytes and replies written as bytes (01, "Marks and bytes"): two-byte marks compared on reading and written before each reply,
+// Requests read from bytes and replies written as bytes (RULES 6): two-byte marks compared on reading and written before each reply,
 // one record at an offset, the walk over all records that gives their reply room or where they break off.
 use rules::GuestBlock;
 use rules::Kind;

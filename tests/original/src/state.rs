@@ -1,4 +1,4 @@
-//! A state of the cache as 01 speaks of it, whichever side it was read from.
+//! A state of the cache as the rules speak of it (RULES 1), whichever side it was read from.
 
 use std::fmt;
 

@@ -1,4 +1,4 @@
--- Demand 3 as a statement: nothing leaves untold, a key stands in one place, and an absent key inserted into a full cache pushes out exactly one pair.
+-- Demand 3 as a statement (RULES 11): nothing leaves untold, a key stands in one place, and an absent key inserted into a full cache pushes out one pair.
 -- Assumes nothing.
 use Prim.Native.Nat.{ℕ, suc, _≤_}
 use mathlib.Core.Path.{_≡_}

@@ -29,7 +29,7 @@ victim σ = cond (above σ || null (σ .main)) Small Main
 abbrev pub wanted : Entry → Bool
 wanted e = ltb 0 (e .freq)
 
--- the same in eviction
+-- the same in eviction, whatever the limits and the queue
 abbrev pub stays : Limits → Queue → Entry → Bool
 stays L q e = wanted e
 
@@ -83,6 +83,7 @@ unfoldable pub evict : State → Evicted
 unfolding steps
 evict σ = steps (suc (warmth σ)) σ
 
+-- full: as many residents as the capacity; a sound state has no more
 unfoldable pub evictIfFull : State → Evicted
 unfolding evict
 evictIfFull σ = cond (leb (σ .limits .capacity) (residents σ)) (evict σ) (untouched σ)

@@ -1,4 +1,4 @@
--- Which replies belong to which request, told from the reply bytes: to each request at most one pair that was pushed out, then one closing reply.
+-- Which replies belong to which request, told from the reply bytes (RULES 6.3): to each request at most one pair that was pushed out, then one closing reply.
 -- Assumes nothing.
 use mathlib.Core.Path.{_≡_}
 use mathlib.Core.Bool.{Bool, true, false}

@@ -9,13 +9,12 @@ use lib.Dec.{eqb, ltb}
 use lib.ListN.{length}
 use lib.IntN.{ℤ, pos, negsuc, negℤ}
 use lib.Ieee.{Float, lt}
-use Rattle.rules.specs.declared.Turned.{Turned}
-use Rattle.rules.specs.declared.Turned.the-variants.{NoCapacity, CapacityAbove, SmallRatio, GhostRatio, GhostLimit}
-use Rattle.rules.specs.declared.Turned.the-variants.{ShortStore, DamagedStore, LongRequests, BadRecord, NoRoom}
+use Rattle.rules.specs.declared.Turned.the-variants.{ShortStore}
 use Rattle.rules.specs.State.{most, emptyAt}
 use Rattle.rules.specs.Sizing.{Sized, limits, refused as misfit, product, badRatio, unit, beyond, sizingUpTo, sizing}
-use Rattle.rules.specs.Refusals.{numberOf, storeBytes}
+use Rattle.rules.specs.Refusals.{storeBytes}
 use Rattle.rules.specs.Verdict.{done, turnedAway, onSized, create}
+use Rattle.rules.proofs.RefusalsLaws.{some-number}
 use Rattle.sizing.specs.declared.Settings.{Settings}
 use Rattle.s3_fifo.specs.declared.Creation.{Creation}
 use Rattle.s3_fifo.specs.declared.Creation.the-variants.{Made, Refused as NotMade}
@@ -51,18 +50,6 @@ code-once (gave n) (gave m) h g e d = ap gave (ap above e)
 code-once (gave n) (turned m f) h g e d = absurd (omega (arith, ap below e, below-minus m))
 code-once (turned n d) (gave m) h g e f = absurd (omega (arith, ap below e, below-minus n))
 code-once (turned n d) (turned m f) h g e k = ap₂ turned (sym (below-minus n) ∙ ap below e ∙ below-minus m) k
-
-some-number : (t : Turned) → 1 ≤ numberOf t
-some-number NoCapacity = omega arith
-some-number CapacityAbove = omega arith
-some-number SmallRatio = omega arith
-some-number GhostRatio = omega arith
-some-number GhostLimit = omega arith
-some-number ShortStore = omega arith
-some-number DamagedStore = omega arith
-some-number LongRequests = omega arith
-some-number (BadRecord at) = omega arith
-some-number (NoRoom room) = omega arith
 
 numbered-ran : (r : Ran) → Numbered (ranSays r)
 numbered-ran (Done n) = tt

@@ -1,6 +1,7 @@
 -- A refusal is known by its number and its detail: no two share both.
 -- Assumes nothing.
-use Prim.Native.Nat.{ℕ}
+use Prim.Native.Nat.{ℕ, _≤_}
+use native.Mathlib.Omega.{arith}
 use mathlib.Core.Path.{_≡_, refl, sym, ap₂, _∙_}
 use mathlib.Core.Bool.{cond}
 use lib.Dec.{eqb}
@@ -36,3 +37,16 @@ turned-back (NoRoom room) = refl
 
 pub turned-once : (t u : Turned) → numberOf t ≡ numberOf u → detailOf t ≡ detailOf u → t ≡ u
 turned-once t u n d = sym (turned-back t) ∙ ap₂ turnedBy n d ∙ turned-back u
+
+-- each has a number, so that none is taken for an accepted call
+pub some-number : (t : Turned) → 1 ≤ numberOf t
+some-number NoCapacity = omega arith
+some-number CapacityAbove = omega arith
+some-number SmallRatio = omega arith
+some-number GhostRatio = omega arith
+some-number GhostLimit = omega arith
+some-number ShortStore = omega arith
+some-number DamagedStore = omega arith
+some-number LongRequests = omega arith
+some-number (BadRecord at) = omega arith
+some-number (NoRoom room) = omega arith

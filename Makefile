@@ -5,7 +5,8 @@
 #   make test [STRICT=1]   the gate: everything; with STRICT=1 a missing original or valgrind is a failure, not a note
 #   make library           the archive that hosts link, target/staticlib/libmapcache.a
 #   make replay            the replay program, target/bin/replay
-#   make tidy              nothing unused, no long line, no name with two meanings, one door to the store, no rule cited in vain (tools/tidy)
+#   make tidy              nothing unused, no long line, no name with two meanings, one door to the store, no rule cited in vain (tools/tidy); what has to be
+#                          believed is listed (tools/believe)
 #   make store-example     the bytes that docs/STORE.md shows are those that the library writes
 #   make clean             remove target/, and with it what is proved
 #   make help              this list
@@ -91,6 +92,8 @@ store-example: $(ARCHIVE) $(HEADER)
 tidy:
 	@tools/tidy
 	@python3 tests/tools/test_tidy.py
+	@tools/believe --check
+	@python3 tests/tools/test_believe.py
 
 # What is run outside the prover.
 RUN_OUTSIDE := machine host-test constants store-example replay-streams replay-cases fuzz-gate differential-gate

@@ -149,6 +149,14 @@ class Tidy(unittest.TestCase):
             f"{path}:4: `low TwosLaws gone` names nothing (a line is: crate Module name -- reason)",
         )
 
+    def test_a_promise_in_proofs(self):
+        path = "crates/low/proofs/TwosLaws.antt"
+        law = "\nrecord Odd (n : ℕ) : Type 0 where\n  pub odd : n ≡ suc zero\n\nlone : Odd (suc zero)\nlone = record { odd = refl }\n"
+        self.expect(
+            {path: law, "tools/theorems.txt": "low TwosLaws lone -- for readers\n"},
+            f"{path}:23: `lone` is for readers, and `Odd` in its statement stands in proofs/",
+        )
+
     def test_unused_imports(self):
         law, code = "crates/low/proofs/TwosLaws.antt", "crates/low/src/lib.rt"
         self.expect(

@@ -1,13 +1,13 @@
 -- The verdict on a whole call: what is turned away, in the order of the table of refusals (RULES 8.2), and what an accepted call gives (RULES 7).
 -- Assumes nothing.
-use Prim.Native.Nat.{ℕ}
+use Prim.Native.Nat.{ℕ, _≤_}
 use mathlib.Core.Bool.{cond}
 use mathlib.Core.List.{List, [], _∷_}
 use lib.ListN.{length}
 use lib.Ieee.{Float}
 use Rattle.rules.specs.declared.Turned.{Turned}
 use Rattle.rules.specs.declared.Turned.the-variants.{ShortStore, DamagedStore}
-use Rattle.rules.specs.State.{State, emptyAt}
+use Rattle.rules.specs.State.{State, emptyAt, Sound}
 use Rattle.rules.specs.Records.{Outcome}
 use Rattle.rules.specs.Requests.{run}
 use Rattle.rules.specs.Sizing.{Sized, limits, refused as misfit, sizing, sizingUpTo}
@@ -53,3 +53,8 @@ unfolding parse run encodeAll roomFor
 call short bs room = turnedAway ShortStore
 call damaged bs room = turnedAway DamagedStore
 call (reads σ) bs room = unless (runRows (length bs) (parse bs) room) (finished (run σ (parse bs .requests)))
+
+-- what an accepted verdict keeps to: its state is sound, and its reply bytes have room
+abbrev pub FitsRoom : ℕ → Verdict State → Type 0
+FitsRoom room (refused n d) = Unit {0}
+FitsRoom room (done σ bs) = Sound σ × (length bs ≤ room)

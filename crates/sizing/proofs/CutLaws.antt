@@ -12,7 +12,7 @@ use lib.Ieee.Scale.{finite}
 use borrow.Author.Tests.{lt-ltb, le-ltb, ltb-false}
 use Rattle.rules.specs.Sizing.{product, nearest, beyond}
 use Rattle.sizing.specs.Cut.{cut}
-use Rattle.rules.proofs.Traces.{dec}
+use Rattle.rules.specs.Traces.{dec}
 
 -- the fourth row's product and the last row's: with a half added and then cut off the first would be 1, and with halves to even
 -- the second would be 1,024

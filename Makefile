@@ -5,6 +5,7 @@
 #   make library           the archive that hosts link, target/staticlib/libmapcache.a
 #   make replay            the replay program, target/bin/replay
 #   make tidy              nothing unused, no long line, no name with two meanings, one door to the store (tools/tidy)
+#   make gate-test         the gate's order, failures and last line, tried with an rt that proves nothing
 #   make store-example     the bytes that docs/STORE.md shows are those that the library writes
 #   make clean             remove target/, and with it what is proved
 #   make help              this list
@@ -71,7 +72,7 @@ endif
 # What a rule did not write to its end is not there.
 .DELETE_ON_ERROR:
 
-.PHONY: all help clean library replay run tidy store-example
+.PHONY: all help clean library replay run tidy gate-test store-example
 
 help:
 	@sed -n 's/^#   \(make.*\)/  \1/p' Makefile mk/*.mk
@@ -112,3 +113,6 @@ store-example: $(ARCHIVE) $(HEADER)
 tidy:
 	@tools/tidy
 	@python3 tests/tools/test_tidy.py
+
+gate-test:
+	@python3 tests/tools/test_gate.py

@@ -7,11 +7,11 @@
 TALLY := target/tally
 
 # What is fast comes first.
-AT_ONCE := tidy generated rust-fmt
+AT_ONCE := tidy generated gate-test rust-fmt
 
 # What is run outside the prover, once rt ci has proved it. HOSTS=none is for a machine of another processor that cannot run
 # hosts: the proofs are the same there.
-RUN_OUTSIDE := machine host-test constants store-example replay-streams replay-cases fuzz-gate differential-gate
+RUN_OUTSIDE := machine replay-cases differential-gate fuzz-gate host-test constants store-example replay-streams
 AFTER := rust-clippy $(if $(filter none,$(HOSTS)),hosts-left-out,$(RUN_OUTSIDE))
 
 # How much the gate runs. An emulator takes ten times as long or more, so there it is less; each run still fails where something

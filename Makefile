@@ -7,6 +7,7 @@
 #   make tidy              nothing unused, no long line, no name with two meanings, one door to the store (tools/tidy)
 #   make gate-test         the gate's order, failures and last line, tried with an rt that proves nothing
 #   make store-example     the bytes that docs/STORE.md shows are those that the library writes
+#   make chains            the table of docs/STORE.md on chains is what its formula gives
 #   make clean             remove target/, and with it what is proved
 #   make help              this list
 
@@ -72,7 +73,7 @@ endif
 # What a rule did not write to its end is not there.
 .DELETE_ON_ERROR:
 
-.PHONY: all help clean library replay run tidy gate-test store-example
+.PHONY: all help clean library replay run tidy gate-test chains store-example
 
 help:
 	@sed -n 's/^#   \(make.*\)/  \1/p' Makefile mk/*.mk
@@ -109,6 +110,10 @@ store-example: $(ARCHIVE) $(HEADER)
 	@$(CC) $(CFLAGS) tests/store/trace_b.c $(ARCHIVE) -o $(HOST)/trace_b
 	@$(HOST)/trace_b > $(HOST)/trace_b.store
 	@python3 tests/store/compare.py docs/STORE.md $(HOST)/trace_b.store
+
+chains: | $(HOST)
+	@python3 tests/store/chains.py > $(HOST)/chains.md
+	@python3 tests/docs/tables.py docs/STORE.md $(HOST)/chains.md
 
 tidy:
 	@tools/tidy

@@ -24,7 +24,7 @@ differential-gate: $(ARCHIVE)
 	@$(call said,record,$(RECORD) check $(RECORDED) $(GHOSTS))
 	@$(DIFFERENTIAL) replay $(RECORDED_CASES)
 	@$(call said,departures,$(DIFFERENTIAL) departures)
-	@python3 tests/docs/departures.py docs/DIFFERENCES.md $(SAID)/departures
+	@python3 tests/docs/tables.py docs/DIFFERENCES.md $(SAID)/departures
 	@$(call said,differential,$(DIFFERENTIAL) run $(GATE_SEED) $(GATE_REQUESTS))
 else
 differential-gate:

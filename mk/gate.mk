@@ -7,7 +7,7 @@
 TALLY := target/tally
 
 # What is fast comes first.
-AT_ONCE := tidy generated gate-test rust-fmt
+AT_ONCE := tidy generated chains gate-test rust-fmt
 
 # What is run outside the prover, once rt ci has proved it. HOSTS=none is for a machine of another processor that cannot run
 # hosts: the proofs are the same there.
@@ -49,4 +49,4 @@ hosts-left-out:
 	@echo 'test: $(MACHINE): HOSTS=none leaves out what has to run outside the prover: $(RUN_OUTSIDE)'
 
 figures:
-	@python3 tests/docs/figures.py $(SAID) $(if $(NATIVE),x86-64,other)
+	@python3 tests/docs/figures.py $(SAID) $(if $(NATIVE),x86-64,other) $(if $(HAVE_ORIGINAL),,without-original)

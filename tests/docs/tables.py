@@ -1,8 +1,8 @@
 #!/usr/bin/env python3
-"""The tables of docs/DIFFERENCES.md are, row by row, what `make departures` prints: departures.py DIFFERENCES.md PRINTED
+"""The tables that a command prints stand in a document, row by row: tables.py DOCUMENT PRINTED
 
-A table that is printed must stand in the document once, under its heading and with its rows in the same order. Rows that
-cannot be printed stand in a table whose heading says that they were tried by hand.
+A table that is printed must stand in the document once, under its heading and with its rows in the same order. A table of the
+document whose first column has the same name, and that is not printed, must say in its heading that it was tried by hand.
 """
 import sys
 
@@ -33,10 +33,21 @@ def differences(name, document, printed):
     for row in same[0][2:]:
         if row not in printed:
             yield f"{name} has this row, which is not printed:\n  {row}"
-    if sorted(same[0]) == sorted(printed) and same[0] != printed:
-        yield f"{name} has the rows under '{printed[0]}' in another order"
-    if len(same[0]) != len(printed):
-        yield f"{name} has {len(same[0]) - 2} rows under '{printed[0]}', and {len(printed) - 2} are printed"
+    if same[0] != printed:
+        yield f"{name}: what stands under '{printed[0]}' is not what is printed, row by row"
+
+
+def first_column(table):
+    return table[0].split("|")[1].strip()
+
+
+def unmarked(name, document, printed):
+    """Tables of the document that look like printed ones, are not printed, and do not say so."""
+    headings = {table[0] for table in printed}
+    for table in document:
+        alike = any(first_column(table).startswith(first_column(other)) for other in printed)
+        if alike and table[0] not in headings and BY_HAND not in table[0]:
+            yield f"{name}: the table under '{table[0]}' is neither printed nor marked as {BY_HAND}"
 
 
 def main():
@@ -45,14 +56,11 @@ def main():
         written, printed = tables(document.read()), tables(file.read())
     if not printed:
         sys.exit(f"{said}: no table is printed")
-    wrong = [problem for table in printed for problem in differences(name, written, table)]
-    for table in written:
-        if table[0].startswith("| refusal") and table not in printed and BY_HAND not in table[0] and not wrong:
-            wrong.append(f"{name}: the table under '{table[0]}' is neither printed nor marked as {BY_HAND}")
+    wrong = [problem for table in printed for problem in differences(name, written, table)] + list(unmarked(name, written, printed))
     if wrong:
         sys.exit("\n".join(wrong))
     rows = sum(len(table) - 2 for table in printed)
-    print(f"{name}: its {rows} rows of departures are those that were just tried")
+    print(f"{name}: {rows} rows of its tables are those that were just printed")
 
 
 if __name__ == "__main__":

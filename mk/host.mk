@@ -22,7 +22,7 @@ rust-lint: rust-fmt rust-clippy
 rust-fmt:
 	@cargo fmt --all --check
 	@rustfmt --check --edition 2024 tests/original/src/observe.rs
-	@if grep -nE 'path = .*(tests|bench)/' host/*/Cargo.toml; then echo 'host/ depends on what is outside it' >&2; exit 1; fi
+	@grep -nE 'path = .*(tests|bench)/' host/*/Cargo.toml; test $$? = 1 || { echo 'host/ depends on what is outside it' >&2; exit 1; }
 	@echo 'rust-fmt: formatted'
 
 rust-clippy: $(ARCHIVE)
@@ -52,7 +52,7 @@ host-c: $(ARCHIVE) $(HEADER) $(HOST)/example.c
 	else $(call left_out,valgrind,that run of the host in C is left out); fi
 
 host-rust: $(ARCHIVE)
-	@$(CARGO) test $(CARGO_FLAGS) -p common -p mapcache
+	@$(call said,host-rust,$(CARGO) test $(CARGO_FLAGS) -p common -p mapcache)
 
 # The scenario that it shows to people, then random runs.
 host-thin: $(ARCHIVE) | $(HOST)
@@ -73,8 +73,8 @@ host-tools: host-c manual
 	else $(call left_out,groff,the manual pages are not looked at); fi
 
 constants: $(ARCHIVE) $(HEADER)
-	@HEADER='$(abspath $(HEADER))' WRAPPER="$(CARGO) run $(CARGO_FLAGS) -p mapcache --example constants" \
-		python3 tests/constants/test_constants.py
+	@$(call said,constants,HEADER='$(abspath $(HEADER))' WRAPPER="$(CARGO) run $(CARGO_FLAGS) -p mapcache --example constants" \
+		python3 tests/constants/test_constants.py)
 
 # The answers to the trace $(1), as text.
 run_trace = tools/mapcache encode $(1) > $(HOST)/run.requests && \

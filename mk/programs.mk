@@ -13,7 +13,7 @@ replay-cases: $(REPLAY) | $(HOST)
 	@$(call said,replay-cases,python3 tests/replay/cases.py $(REPLAY) $(RECORDED_CASES) $(HOST)/calls.cases)
 
 replay-streams: $(REPLAY)
-	@REPLAY='$(abspath $(REPLAY))' STRICT='$(STRICT)' python3 tests/replay/test_streams.py
+	@$(call said,replay-streams,REPLAY='$(abspath $(REPLAY))' STRICT='$(STRICT)' python3 tests/replay/test_streams.py)
 
 generated:
 	@python3 tests/generated/check.py

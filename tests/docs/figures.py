@@ -12,6 +12,7 @@ gate runs less, and the table of docs/RELIABILITY.md has a column for each. What
 """
 import os
 import re
+import struct
 import sys
 
 TOP = os.path.join(os.path.dirname(os.path.abspath(__file__)), "../..")
@@ -69,8 +70,14 @@ def rows_of_hosts(said, original):
     yield "example host: pairs written as they leave", runs(r" (\d+) pairs written as they left,$")
     if original:
         yield "example host, over the original: runs in which a block comes to belong to two", runs(r"^  in (\d+) of \d+ a block came to belong")
-    tests = sum(int(Printed(said, name)(r"^Ran (\d+) tests in ")) for name in ("tools-mapcache", "tools-scripts"))
-    yield "tests of the tools", str(tests)
+    passed = re.findall(r"^test result: ok\. (\d+) passed; 0 failed;", Printed(said, "host-rust").text, re.M)
+    yield "tests of the wrapper in Rust", str(sum(map(int, passed)))
+    yield "tests of the tools", str(tests_in(said, "tools-mapcache") + tests_in(said, "tools-scripts"))
+    yield "tests of the constants", str(tests_in(said, "constants"))
+
+
+def tests_in(said, name):
+    return int(Printed(said, name)(r"^Ran (\d+) tests in "))
 
 
 def rows_of_programs(said):
@@ -78,6 +85,7 @@ def rows_of_programs(said):
     recorded = [cases(rf"^crates/recorded/data/{name}.bin: .*, (\d+) cases$") for name in ("few", "many", "most")]
     yield "replay program: cases of the original's answers", f"{sum(int(number.replace(',', '')) for number in recorded):,}"
     yield "replay program: cases written out by hand", cases(r"calls.cases: .*, (\d+) cases$")
+    yield "replay program: tests on streams", str(tests_in(said, "replay-streams"))
 
 
 def rows(said, machine, original):
@@ -91,7 +99,7 @@ def rows(said, machine, original):
         run = Printed(said, "differential")
         yield "differential run: requests", run(r"^ +(\d+)  requests$")
         yield "differential run: calls", run(r"^ +(\d+)  calls$")
-        yield "differential run: kinds of event", str(len(re.findall(r"^ {1,11}\d+  (?!different|creations)", run.text, re.M)))
+        yield "differential run: kinds of event", str(kinds_of_event(said))
 
 
 MAY_BE_MISSING = {
@@ -130,6 +138,7 @@ def sentences(said, original):
     yield "docs/STORE.md", f"which every store must have (refusal 6 below it) | {store} |"
     yield TABLE, f"stores from 0 bytes on and around {store}, requests around {requests} bytes"
     yield TABLE, f"of which the program reads {int(constants['settings_bytes']) + int(constants['most_request_bytes']) + 1:,} bytes and no more"
+    yield "man/mapcache-replay.1.in", f"(the bits of two IEEE 754 doubles): {constants['settings_bytes']} bytes."
     yield "man/mapcache-replay.1.in", f"More than {requests} bytes of requests are"
 
     needs = dict(line.split(":") for line in read("crates.txt").splitlines() if ":" in line.split("#")[0])
@@ -157,9 +166,39 @@ def sentences(said, original):
         yield "docs/DIFFERENCES.md", f"{many} runs at capacities up to 1,024, and {most} calls as long as a call can be"
         ghosts = r"^crates/ghosts/stdin: (\d+) operations \((\d+) new, (\d+) record, (\d+) remove, (\d+) evict_lru, (\d+) clear\)"
         operations, lists, record, remove, oldest, clear = recorded(ghosts)
-        yield "docs/DIFFERENCES.md", f"{operations} operations on {lists} lists"
-        yield "docs/DIFFERENCES.md", f"Of them {record} record a key"
+        limits, full, there, none = records_of_ghosts()
+        yield "docs/DIFFERENCES.md", f"{operations} operations on {lists} lists of limits {limits}."
+        yield "docs/DIFFERENCES.md", f"Of them {record} record a key ({full} on a full list, {there} a key that is there already, {none} at limit 0)"
         yield "docs/DIFFERENCES.md", f"{remove} remove one, {oldest} take the oldest, {clear} clear"
+        yield "docs/DIFFERENCES.md", f"The run fails if any of {kinds_of_event(said)} kinds of event"
+
+
+def kinds_of_event(said):
+    return len(re.findall(r"^ {1,11}\d+  (?!different|creations)", Printed(said, "differential").text, re.M))
+
+
+def records_of_ghosts():
+    """The limits of crates/ghosts/stdin, and how many records are on a full list, of a key that is there, and at limit 0."""
+    with open(os.path.join(TOP, "crates/ghosts/stdin"), "rb") as file:
+        data = file.read()
+    limits, ghosts, limit, full, there, none = set(), [], 0, 0, 0, 0
+    for letter, key in struct.iter_unpack("<cQ", data):
+        if letter == b"N":
+            ghosts, limit = [], key
+            limits.add(limit)
+        elif letter == b"C":
+            ghosts = []
+        elif letter == b"E":
+            ghosts = ghosts[1:]
+        else:
+            recorded, known = letter == b"R", key in ghosts
+            none += recorded and limit == 0
+            there += recorded and known
+            full += recorded and not known and 0 < limit == len(ghosts)
+            ghosts = [other for other in ghosts if other != key] + [key] * recorded
+            ghosts = ghosts[max(0, len(ghosts) - limit):]
+    *first, last = (f"{limit:,}" for limit in sorted(limits))
+    return f"{', '.join(first)} and {last}", full, there, none
 
 
 def ratios_of_speed():

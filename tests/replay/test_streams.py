@@ -32,7 +32,7 @@ def run(data):
 class Streams(unittest.TestCase):
     def test_in_one_piece(self):
         done = run(TRACE)
-        self.assertEqual((done.stdout, done.stderr), (ANSWER, b""))
+        self.assertEqual((done.returncode, done.stdout, done.stderr), (0, ANSWER, b""))
 
     def test_byte_by_byte(self):
         program = subprocess.Popen([REPLAY], stdin=subprocess.PIPE, stdout=subprocess.PIPE, stderr=subprocess.PIPE, bufsize=0)
@@ -47,7 +47,8 @@ class Streams(unittest.TestCase):
         program.wait()
 
     def test_no_input(self):
-        self.assertEqual(run(b"").stdout, no(9))
+        done = run(b"")
+        self.assertEqual((done.returncode, done.stdout, done.stderr), (0, no(9), b""))
 
     def test_no_more_is_read_than_can_be_accepted(self):
         with tempfile.TemporaryFile() as file:

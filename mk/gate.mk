@@ -14,8 +14,8 @@ AT_ONCE := tidy generated chains gate-test rust-fmt
 RUN_OUTSIDE := machine replay-cases differential-gate fuzz-gate host-test constants store-example replay-streams
 AFTER := rust-clippy $(if $(filter none,$(HOSTS)),hosts-left-out,$(RUN_OUTSIDE))
 
-# How much the gate runs. An emulator takes ten times as long or more, so there it is less; each run still fails where something
-# that must come up did not.
+# How much the gate runs. An emulator is slow, so there it is less; each run still fails where something that must come up did
+# not. docs/RELIABILITY.md has the figures of both, and `make figures` compares them.
 GATE_SEED := 1
 GATE_FUZZ_SEED := 1
 VALGRIND_CALLS := 300
@@ -39,6 +39,7 @@ test:
 	@$(MAKE) --no-print-directory $(AT_ONCE)
 	@tools/rt-ci $(TALLY)
 	@$(MAKE) --no-print-directory library replay
+	@echo 'test: two at a time, each shown when it is done: $(AFTER)'
 	@$(MAKE) --no-print-directory --jobs=2 --output-sync=target SIDE_BY_SIDE=yes $(AFTER)
 	@$(if $(filter none,$(HOSTS)),,$(MAKE) --no-print-directory figures)
 	@tools/edits-judge

@@ -4,7 +4,7 @@
 #   make test [STRICT=1]   the gate: everything; with STRICT=1 a missing original or tool is a failure, not a note
 #   make figures           the figures of the documents are those that the gate's runs have just printed
 
-TALLY := target/tally
+TALLY := $(HOST)/tally
 
 # What is fast comes first.
 AT_ONCE := tidy generated chains gate-test rust-fmt

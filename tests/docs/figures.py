@@ -8,7 +8,8 @@ gate runs less, and the table of docs/RELIABILITY.md has a column for each. What
 
  - each row of that table with its column for this machine; a row that nothing here knows, and a figure without a row, fail;
  - sentences with figures, in several documents. Each must stand there with the figures that were printed, however its lines
-   are broken.
+   are broken;
+ - the assumptions that the check of each crate counts, as rt has left them in target/log.
 """
 import os
 import re
@@ -141,8 +142,8 @@ def sentences(said, original):
     yield "man/mapcache-replay.1.in", f"(the bits of two IEEE 754 doubles): {constants['settings_bytes']} bytes."
     yield "man/mapcache-replay.1.in", f"More than {requests} bytes of requests are"
 
-    needs = dict(line.split(":") for line in read("crates.txt").splitlines() if ":" in line.split("#")[0])
-    count = 1 + sum(name in needs for name in needs["replay"].split())
+    needs = crates()
+    count = 1 + sum(name in needs for name in needs["replay"])
     yield "README.md", f"it proves {count} crates first"
     yield "README.md", f"`[3/{count}] rules"
     yield "README.md", " ".join("\n".join(read("examples/first.answers").splitlines()[:5]).split())
@@ -201,6 +202,25 @@ def records_of_ghosts():
     return f"{', '.join(first)} and {last}", full, there, none
 
 
+def wrong_axioms():
+    """What the check of each crate counts after `axioms=`: none for a library, and for a program what docs/DECISIONS.md says."""
+    said = " ".join(read("docs/DECISIONS.md").split())
+    for crate in crates():
+        proved = re.findall(r"^logic=proved functions=\d+(?: axioms=(\d+))? ", read(f"target/log/{crate}.say"), re.M)
+        if len(proved) != 1:
+            yield f"target/log/{crate}.say does not say once that {crate} is proved"
+        elif os.path.exists(os.path.join(TOP, "crates", crate, "src/main.rt")):
+            written = re.search(rf"`{crate}`(?: and `\w+`)?: (\d+)[ ,.]", said)
+            if written is None or written[1] != proved[0]:
+                yield f"docs/DECISIONS.md: `{crate}` counts {written[1] if written else 'no'} assumptions, and its check {proved[0] or 'none'}"
+        elif proved[0]:
+            yield f"README.md says that libraries rest on no axiom, and the check of {crate} counts {proved[0]}"
+
+
+def crates():
+    return {line.split(":")[0]: line.split(":")[1].split() for line in read("crates.txt").splitlines() if ":" in line.split("#")[0]}
+
+
 def ratios_of_speed():
     """The ratios of docs/SPEED.md's table of times, by capacity."""
     found = {}
@@ -224,7 +244,7 @@ def main():
     said, machine, *without = sys.argv[1:]
     original = without != ["without-original"]
     try:
-        wrong = [*wrong_rows(said, machine, original), *wrong_sentences(said, original)]
+        wrong = [*wrong_rows(said, machine, original), *wrong_sentences(said, original), *wrong_axioms()]
     except FileNotFoundError as missing:
         sys.exit(f"figures: {missing.filename} is not there: `make test` leaves it, or the target that prints it")
     for problem in wrong:

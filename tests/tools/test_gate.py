@@ -27,7 +27,8 @@ exit "$CI_ENDS"
 
 MAKEFILE = """NATIVE := {native}
 MACHINE := some
-SAID := target/said
+HOST := target/host
+SAID := target/host/said
 include mk/gate.mk
 tidy generated chains gate-test rust-fmt library replay rust-clippy $(RUN_OUTSIDE):
 	@echo $@ >> "$$RAN"; test "$$FAIL" != $@ || {{ echo "$@ fails" >&2; exit 7; }}

@@ -1,6 +1,6 @@
 # The proved library against the original: differential runs, recorded answers, benchmark.
 #
-#   make differential-gate                       the comparison that `make test` makes: a fixed seed
+#   make differential-gate                       the comparison that `make test` makes: a fixed seed; recorded answers; departures
 #   make differential SEED=7 REQUESTS=100000000  any seed, any number of requests from 1,000,000 on
 #   make departures                              the tables of docs/DIFFERENCES.md, each row tried
 #   make record                                  write crates/recorded/data and crates/ghosts' stdin and stdout anew from the original
@@ -9,8 +9,6 @@
 # Where the original is not there the gate goes on, since its recorded answers are compared without it. The other targets
 # need it.
 
-GATE_SEED := 1
-GATE_REQUESTS := 4000000
 GHOSTS := crates/ghosts
 RECORDED_CASES := $(addprefix $(RECORDED)/,few.bin many.bin most.bin)
 
@@ -23,10 +21,11 @@ BENCH := $(CARGO) run $(filter-out --release,$(CARGO_FLAGS)) --profile timed -p 
 
 ifneq ($(HAVE_ORIGINAL),)
 differential-gate: $(ARCHIVE)
-	@$(RECORD) check $(RECORDED) $(GHOSTS)
+	@$(call said,record,$(RECORD) check $(RECORDED) $(GHOSTS))
 	@$(DIFFERENTIAL) replay $(RECORDED_CASES)
-	@$(DIFFERENTIAL) departures
-	@$(DIFFERENTIAL) run $(GATE_SEED) $(GATE_REQUESTS)
+	@$(call said,departures,$(DIFFERENTIAL) departures)
+	@python3 tests/docs/tables.py docs/DIFFERENCES.md $(SAID)/departures
+	@$(call said,differential,$(DIFFERENTIAL) run $(GATE_SEED) $(GATE_REQUESTS))
 else
 differential-gate:
 	@echo 'differential-gate: ORIGINAL=$(ORIGINAL) does not hold the original: only its recorded answers are compared'

@@ -1,14 +1,10 @@
 # For hosts: their tests, the fuzzer, the lints of all Rust.
 #
 #   make host-test                   hosts in C (plain, sanitized, under valgrind) and Rust, the example host, the tools
-#   make rust-lint                   rustfmt and clippy over hosts, tests and benchmark, warnings as errors
+#   make rust-lint                   rustfmt (rust-fmt) and clippy (rust-clippy) over hosts, tests and benchmark, warnings as errors
 #   make constants                   header, wrapper and tools have the constants of the proved code
 #   make fuzz-gate                   bad input at scale: the calls that `make test` makes, a fixed seed
 #   make fuzz SEED=7 CALLS=10000000  any seed, any number of calls
-
-GATE_FUZZ_SEED := 1
-GATE_FUZZ_CALLS := 120000
-VALGRIND_CALLS := 300
 
 FUZZ := $(CARGO) run $(CARGO_FLAGS) -p mapcache-fuzz --
 
@@ -16,42 +12,47 @@ FUZZ := $(CARGO) run $(CARGO_FLAGS) -p mapcache-fuzz --
 THIN_FEATURES := $(if $(HAVE_ORIGINAL),--features thin-runs/original)
 RUST := --workspace $(if $(HAVE_ORIGINAL),$(THIN_FEATURES),--exclude original --exclude differential --exclude bench)
 
-.PHONY: host-test host-c host-rust host-thin host-tools host-run rust-lint constants fuzz-gate fuzz
+.PHONY: host-test host-c host-rust host-thin host-tools host-run rust-lint rust-fmt rust-clippy constants fuzz-gate fuzz
 
 host-test: host-c host-rust host-thin host-tools host-run host-install
 
+rust-lint: rust-fmt rust-clippy
+
 # observe.rs is named by a file that the build writes, so cargo does not find it. A host needs nothing of the tests.
-rust-lint: $(ARCHIVE)
+rust-fmt:
 	@cargo fmt --all --check
 	@rustfmt --check --edition 2024 tests/original/src/observe.rs
+	@grep -nE 'path = .*(tests|bench)/' host/*/Cargo.toml; test $$? = 1 || { echo 'host/ depends on what is outside it' >&2; exit 1; }
+	@echo 'rust-fmt: formatted'
+
+rust-clippy: $(ARCHIVE)
 	@$(CARGO_HERE) clippy $(CARGO_FLAGS) $(RUST) --all-targets -- -D warnings
-	@! grep -nE 'path = .*(tests|bench)/' host/*/Cargo.toml || { echo 'host/ depends on what is outside it' >&2; exit 1; }
-	@echo 'rust-lint: formatted, and clippy has no warning$(if $(HAVE_ORIGINAL),, (without what is made of the original))'
+	@echo 'rust-clippy: no warning$(if $(HAVE_ORIGINAL),, (without what is made of the original))'
 
 # The header's worked example is cut out of its comment, so that what people copy is what is compiled.
+EXAMPLE_SAYS := 38 bytes: NW 0, then ES 7 70, NW 1
 $(HOST)/example.c: $(HEADER)
 	@sed -n '/--- example begins ---/,/--- example ends ---/{//!s/^ \* \{0,1\}//p}' $< > $@
 	@test -s $@ || { echo '$<: there is no example in it' >&2; exit 1; }
 
-# No variables, so that threads may call it side by side; no symbols of others but the C library's mem functions.
 host-c: $(ARCHIVE) $(HEADER) $(HOST)/example.c
-	@! $(NM) $(ARCHIVE) | grep -E ' [bBcCdD] ' || { echo '$(ARCHIVE): these are variables, and mapcache.h says that there are none' >&2; exit 1; }
-	@! $(NM) -u $(ARCHIVE) | grep ' U ' | grep -vE ' U mem(cpy|move|set|cmp)$$' || { echo '$(ARCHIVE): needs more than the mem functions' >&2; exit 1; }
+	@tests/archive/check $(NM) $(ARCHIVE)
 	@$(CC) $(CFLAGS) $(HOST)/example.c $(ARCHIVE) -o $(HOST)/example
-	@test "$$($(HOST)/example)" = '38 bytes: NW 0, then ES 7 70, NW 1' || \
+	@test "$$($(HOST)/example)" = '$(EXAMPLE_SAYS)' || \
 		{ echo 'host/mapcache.h.in: its example prints something else' >&2; exit 1; }
 	@$(CC) $(CFLAGS) host/c/test.c $(ARCHIVE) -o $(HOST)/test
-	@$(HOST)/test $(RECORDED)/calls.bin 20000 $(HOST)/trace_d.store
+	@$(call said,c-host,$(HOST)/test $(RECORDED)/calls.bin $(GATE_RANDOM_CALLS) $(HOST)/trace_d.store)
 	@$(CC) $(CFLAGS) $(SANITIZE) host/c/test.c $(ARCHIVE) -o $(HOST)/test-sanitized
-	@echo 'c host, sanitizers of $(if $(NATIVE),addresses and )undefined behaviour:' && $(HOST)/test-sanitized $(RECORDED)/calls.bin
+	@echo 'c host, sanitizers of $(if $(NATIVE),addresses and )undefined behaviour:' && \
+		$(HOST)/test-sanitized $(RECORDED)/calls.bin $(GATE_RANDOM_CALLS)
 	@if test -z '$(NATIVE)'; then echo 'host-c: valgrind cannot look into an emulator: that run is left out'; \
 	elif command -v valgrind > /dev/null; then \
 		echo 'c host, valgrind:' && \
-		valgrind -q --error-exitcode=9 --leak-check=full $(HOST)/test $(RECORDED)/calls.bin $(VALGRIND_CALLS); \
-	else echo 'host-c: there is no valgrind: that run is left out'; test '$(STRICT)' != 1; fi
+		$(call said,c-host-valgrind,valgrind -q --error-exitcode=9 --leak-check=full $(HOST)/test $(RECORDED)/calls.bin $(VALGRIND_CALLS)); \
+	else $(call left_out,valgrind,that run of the host in C is left out); fi
 
 host-rust: $(ARCHIVE)
-	@$(CARGO) test $(CARGO_FLAGS) -p common -p mapcache
+	@$(call said,host-rust,$(CARGO) test $(CARGO_FLAGS) -p common -p mapcache)
 
 # The scenario that it shows to people, then random runs.
 host-thin: $(ARCHIVE) | $(HOST)
@@ -61,17 +62,19 @@ host-thin: $(ARCHIVE) | $(HOST)
 		{ echo 'host-thin: thin --version does not say thin $(VERSION)' >&2; exit 1; }
 	@test -n '$(HAVE_ORIGINAL)' || \
 		{ echo 'host-thin: ORIGINAL=$(ORIGINAL) does not hold the original: that half is left out'; test '$(STRICT)' != 1; }
-	@$(CARGO) run $(CARGO_FLAGS) -p thin-runs $(THIN_FEATURES) -- --map $(HOST)/thin.map
+	@$(call said,thin-runs,$(CARGO) run $(CARGO_FLAGS) -p thin-runs $(THIN_FEATURES) -- --runs $(GATE_THIN_RUNS) --map $(HOST)/thin.map)
 
 host-tools: host-c manual
-	@HEADER='$(abspath $(HEADER))' STORE='$(abspath $(HOST)/trace_d.store)' python3 tests/tools/test_mapcache.py
-	@python3 tests/tools/test_scripts.py
+	@$(call said,tools-mapcache,HEADER='$(abspath $(HEADER))' STORE='$(abspath $(HOST)/trace_d.store)' python3 tests/tools/test_mapcache.py)
+	@$(call said,tools-scripts,python3 tests/tools/test_scripts.py)
 	@if command -v groff > /dev/null; then \
-		said=$$(groff -man -Tutf8 -ww -z $(MANUAL) 2>&1) && test -z "$$said" || { echo "$$said" >&2; exit 1; }; fi
+		said=$$(groff -man -Tutf8 -ww -z $(MANUAL) 2>&1) && test -z "$$said" || { echo "groff: $$said" >&2; exit 1; }; \
+		echo 'manual pages: groff has nothing to say of them'; \
+	else $(call left_out,groff,the manual pages are not looked at); fi
 
 constants: $(ARCHIVE) $(HEADER)
-	@HEADER='$(abspath $(HEADER))' WRAPPER="$(CARGO) run $(CARGO_FLAGS) -p mapcache --example constants" \
-		python3 tests/constants/test_constants.py
+	@$(call said,constants,HEADER='$(abspath $(HEADER))' WRAPPER="$(CARGO) run $(CARGO_FLAGS) -p mapcache --example constants" \
+		python3 tests/constants/test_constants.py)
 
 # The answers to the trace $(1), as text.
 run_trace = tools/mapcache encode $(1) > $(HOST)/run.requests && \
@@ -87,7 +90,7 @@ host-run: $(REPLAY) | $(HOST)
 		{ echo 'host-run: $(REPLAY) --version does not say mapcache-replay $(VERSION)' >&2; exit 1; }
 
 fuzz-gate: $(ARCHIVE)
-	@$(FUZZ) --seed $(GATE_FUZZ_SEED) --calls $(GATE_FUZZ_CALLS)
+	@$(call said,fuzz,$(FUZZ) --seed $(GATE_FUZZ_SEED) --calls $(GATE_FUZZ_CALLS))
 
 fuzz: $(ARCHIVE)
 	@$(FUZZ) --seed $(SEED) --calls $(CALLS)

@@ -45,7 +45,8 @@ uninstall:
 host-install: $(ARCHIVE) $(REPLAY) $(HEADER) $(MANUAL) $(HOST)/example.c
 	@rm -rf $(HOST)/prefix && mkdir -p $(HOST)/prefix/bin && echo kept > $(HOST)/prefix/bin/other
 	@$(call install_below,$(abspath $(HOST)/prefix),)
-	@tests/install/check '$(abspath $(HOST)/prefix)' '$(VERSION)' $(HOST)/example.c $(INSTALLED)
+	@STRICT='$(STRICT)' WITHOUT='$(WITHOUT)' \
+		tests/install/check '$(abspath $(HOST)/prefix)' '$(VERSION)' $(HOST)/example.c '$(EXAMPLE_SAYS)' $(INSTALLED)
 	@$(call uninstall_below,$(abspath $(HOST)/prefix),)
 	@test "$$(cd $(HOST)/prefix && find . -type f)" = ./bin/other || { echo 'make uninstall: not exactly what was installed is gone' >&2; exit 1; }
 	@echo 'make install, make uninstall: a host builds and runs against it; what was there before stays'

@@ -1,13 +1,15 @@
 #!/usr/bin/env python3
-"""Writes recorded calls with what the rules say of each (docs/RULES.md): make_calls.py STEPS CASES
+"""Writes recorded calls with what the rules say of each (docs/RULES.md): make_calls.py STEPS CASES PROGRAM
 
 STEPS (crates/recorded/data/calls.bin) is for the program `recorded` and for the hosts' tests in C and Rust: steps on one store,
 each with 32 bytes in front (kind, store bytes lent, reply room, number; lengths of input and output; detail), input and output.
 CASES is for the replay program, written when it is tested: lengths of input and output, settings and requests, and what the
-program must write. This is the one table of refused calls: a new refusal gets its cases here.
+program must write. PROGRAM (crates/replay) is the folder whose stdin and stdout are trace B and its answer, which the replay
+program is run on when it is proved. This is the one table of refused calls: a new refusal gets its cases here.
 
 The answers are written out here by hand from that page. Nothing is asked of the library, and no rule is worked out.
 """
+import os
 import struct
 import sys
 
@@ -39,6 +41,9 @@ EV, CL, MI, OK = b"EV", b"CL", b"MI", b"OK"
 def settings(capacity, small=0.1, ghost=0.9):
     return b"CF" + struct.pack("<Qdd", capacity, small, ghost)
 
+
+# Trace B: its requests, at capacity 2, and the replies.
+TRACE_B = (IN(1, 10) + GT(1) + IN(2, 20) + IN(3, 30), NW(0) + HI(10) + NW(0) + ES(2, 20) + NW(2))
 
 steps = []
 cases = []
@@ -114,7 +119,7 @@ def traces():
     trace(settings(1), (a, told), (IN(9, 90), EM(7, 71) + NW(1)))
     # B, C, D, E
     trace(settings(2),
-          (IN(1, 10) + GT(1) + IN(2, 20) + IN(3, 30), NW(0) + HI(10) + NW(0) + ES(2, 20) + NW(2)),
+          TRACE_B,
           (IN(2, 21), ES(3, 30) + NW(1)),
           (GT(1) * 4 + GT(2) + IN(4, 40), HI(10) * 4 + HI(21) + EM(2, 21) + NW(4)),
           (EV, ES(4, 40) + EX(1, 10)),
@@ -197,7 +202,7 @@ def refusal_7():
     run(GT(1), number=7)
     run(b"?" * (MOST_REQUEST_BYTES + 1), number=7)
     create(settings(2))
-    run(IN(1, 10) + GT(1) + IN(2, 20) + IN(3, 30), NW(0) + HI(10) + NW(0) + ES(2, 20) + NW(2))
+    run(*TRACE_B)
 
     damaged(0, [2], [0])                     # the capacity is 0
     damaged(0, [2, 0], [1, 4])               # the capacity is 1,025
@@ -277,11 +282,14 @@ def refusal_10():
 
 
 def main():
-    if len(sys.argv) != 3:
+    if len(sys.argv) != 4:
         sys.exit(__doc__.splitlines()[0])
     for part in (traces, other_rules, refusals_1_to_5, refusal_6, refusal_7, refusal_8, refusal_9, refusal_10):
         part()
-    for path, parts in zip(sys.argv[1:], (steps, cases)):
+    given, wanted = TRACE_B
+    program = sys.argv[3]
+    for path, parts in [(sys.argv[1], steps), (sys.argv[2], cases),
+                        (os.path.join(program, "stdin"), [settings(2), given]), (os.path.join(program, "stdout"), [wanted])]:
         with open(path, "wb") as file:
             file.write(b"".join(parts))
     print(f"{len(steps)} steps, {len(cases)} cases")

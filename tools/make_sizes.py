@@ -1,9 +1,10 @@
-# Writes crates/sizes/stdin, settings records (CF), and crates/sizes/stdout, the lines that the program `sizes`
-# has to print for them. The answers come from exact fractions alone: a double is read from its bits as a
-# fraction, the product is rounded to a double by whole numbers, and no float is computed with.
+# Writes to a folder (crates/sizes) stdin, settings records (CF), and stdout, the lines that the program `sizes` has to print for
+# them. The answers come from exact fractions alone: a double is read from its bits as a fraction, the product is rounded to a
+# double by whole numbers, and no float is computed with.
 #
-#     python3 tools/make_sizes.py
+#     python3 tools/make_sizes.py FOLDER
 import os
+import sys
 from fractions import Fraction
 
 MOST = 1024
@@ -129,9 +130,9 @@ for bad in [b"cf" + whole[2:], b"CG" + whole[2:], b"DF" + whole[2:], b"FC" + who
     stdin += bad
     lines.append("no settings")
 assert len(stdin) <= 65536, len(stdin)
-here = os.path.join(os.path.dirname(os.path.abspath(__file__)), "..", "crates", "sizes")
-with open(os.path.join(here, "stdin"), "wb") as f:
+folder, = sys.argv[1:]
+with open(os.path.join(folder, "stdin"), "wb") as f:
     f.write(stdin)
-with open(os.path.join(here, "stdout"), "w") as f:
+with open(os.path.join(folder, "stdout"), "w") as f:
     f.write("\n".join(lines) + "\n")
 print(len(records), "settings,", len(stdin), "bytes")

@@ -39,7 +39,10 @@ def in_pieces(program, given):
             running.stdin.close()
         except BrokenPipeError:
             pass  # the program stops reading where no more can be accepted
-        return running.stdout.read()
+        wrote = running.stdout.read()
+    if running.returncode != 0:
+        raise subprocess.CalledProcessError(running.returncode, program)
+    return wrote
 
 
 def main():

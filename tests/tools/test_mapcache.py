@@ -196,6 +196,10 @@ Ghosts limit 2    newest > (3) > oldest
         self.assertEqual(mapcache("show", os.environ["STORE"]), (0, self.PICTURE.encode(), ""))
         self.assertEqual(mapcache("show", given=self.store)[1], self.PICTURE.encode())
 
+    def test_the_manual_page_has_that_picture(self):
+        with open(os.path.join(HERE, "../../man/mapcache.1.in"), encoding="utf-8") as file:
+            self.assertIn("$ mapcache show cache.store\n" + self.PICTURE.rsplit("\n\n", 1)[0] + "\n", file.read())
+
     def damaged(self, change):
         store = bytearray(self.store)
         change(store)

@@ -82,7 +82,7 @@ pub fn create(settings: Settings, store: &mut [u8]) -> Result<(), Refusal> {
 pub fn run(store: &mut [u8], requests: &[u8], replies: &mut [u8]) -> Result<usize, Refusal> {
     let mut detail = 0;
     // SAFETY: slices' pointers are not null, also at length 0, and good for their lengths; `&mut` and `&` borrowed
-    // together mean that the buffers do not overlap and that no other thread changes them; `detail` is our own.
+    // together mean that the buffers do not overlap and that no other thread changes them; `detail` is our own, and a `u64`.
     let answer = unsafe {
         ffi::mapcache_run(
             store.as_mut_ptr(),

@@ -1,9 +1,9 @@
 //! The proved mapping cache, for hosts in Rust.
 //!
 //! A cache maps guest blocks to physical blocks (S3-FIFO), in memory that the host lends. The library underneath,
-//! `libmapcache.a`, is proved to follow its rules for every input under four assumptions: no pointer is null, lengths
-//! are true, the buffers do not overlap, and no other thread uses them meanwhile. Here they cannot be broken: slices
-//! give the first two, and `&mut` gives the others.
+//! `libmapcache.a`, is proved to follow its rules for every input under five assumptions: no pointer is null, lengths
+//! are true, the refusal's detail is aligned as a `u64` is, the buffers do not overlap, and no other thread uses them
+//! meanwhile. Here they cannot be broken: slices give the first two, the detail is a `u64`, and `&mut` gives the others.
 //!
 //! ```
 //! use mapcache::{Cache, GuestBlock, Inserted, Pair, PhysicalBlock, Queue, Left, Settings};

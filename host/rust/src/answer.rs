@@ -15,7 +15,7 @@ pub enum Inserted {
     New {
         /// The pair that had to leave for it.
         left: Option<Left>,
-        /// How many entries the eviction rule popped.
+        /// How many pops the eviction rule made; an entry that is asked for again may be popped twice.
         pops: u64,
     },
 }

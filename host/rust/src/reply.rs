@@ -18,7 +18,7 @@ pub enum Reply {
     Replaced(PhysicalBlock),
     /// NW: the block is new.
     New {
-        /// How many entries the eviction rule popped.
+        /// How many pops the eviction rule made; an entry that is asked for again may be popped twice.
         pops: u64,
     },
     /// GO: where the block was that is taken out.

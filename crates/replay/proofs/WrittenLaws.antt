@@ -1,12 +1,14 @@
 -- What the program writes is what the rules say of all its input, though it looks at no more than its first part; and it fits.
 -- Assumes nothing.
-use mathlib.Core.Path.{_≡_, refl, sym, ap, ap₂, subst, _∙_}
-use mathlib.Core.Bool.{Bool, true, false, cond, _&&_}
-use mathlib.Core.List.{List, [], _∷_, _++_}
-use Prim.Native.Nat.{ℕ, _+_, _-_, _≤_, _<_, min}
+use mathlib.Core.Path.{_≡_, refl, sym, ap, _∙_}
+use mathlib.Core.Bool.{Bool, true, false}
+use mathlib.Core.List.{List, [], _∷_}
+use Prim.Native.Nat.{ℕ, zero, suc, _+_, _-_, _≤_, _<_}
 use native.Mathlib.Nat.{sub-zero}
 use native.Mathlib.Omega.{arith}
-use lib.Dec.{leb, ltb}
+use mir.Val.{Fits as Fits·}
+use mir.Syntax.{w8}
+use lib.Dec.{leb}
 use lib.Ieee.{Float}
 use lib.ListN.{length, getD, take, drop, length-take, length-drop}
 use lib.Seq.{take-all, getD-take, getD-drop}
@@ -14,8 +16,8 @@ use borrow.Author.Tests.{lt-ltb, le-leb, leb-true, leb-false}
 use Rattle.cells.specs.Cells.{le, Bytes}
 use Rattle.cells.proofs.Laws.{le-ext}
 use Rattle.rules.specs.State.{State, Sound}
-use Rattle.rules.specs.Bytes.{mark, marks, bytesOf}
-use Rattle.rules.specs.Sizing.{Asked, asks, noSettings, settingsBytes, settingsAt, settingsOf, double}
+use Rattle.rules.specs.Bytes.{bytesOf}
+use Rattle.rules.specs.Sizing.{Asked, asks, noSettings, settingsBytes, settingsOf}
 use Rattle.rules.specs.Sizing.{Sized, limits, refused as misfit, sizing}
 use Rattle.rules.specs.Refusals.{storeBytes, mostRequestBytes}
 use Rattle.rules.specs.declared.Turned.the-variants.{LongRequests}
@@ -24,22 +26,14 @@ use Rattle.rules.proofs.SoundLaws.{empty-sound}
 use Rattle.rules.proofs.VerdictLaws.{Fits, call-fits}
 use Rattle.sizing.proofs.AcceptedLaws.{accepted-fine}
 use Rattle.wire.specs.Wire.{Wrote}
+use Rattle.wire.proofs.SpliceLaws.{wrote-length}
 use Rattle.replay.specs.Output.{noRecord, noBytes, printed, onCreated, onAsked, outputFor, mostInput, replyRoom, writtenFor}
 
--- ---- the code's own part: of what was read nothing is cut off
+-- ---- the cut does not matter
 
 within-most : (s : List ℕ) → length s ≤ mostInput → writtenFor s ≡ outputFor s replyRoom
 unfolding writtenFor
 within-most s h = ap (λ (x : List ℕ). outputFor x replyRoom) (take-all mostInput s h)
-
--- (a part from 0 to n is taken as n - 0 bytes)
-pub reply-read : (s p : List ℕ) (n : ℕ) {p′ : List ℕ} {r : ℕ} → mostInput ≡ length s → n ≤ length s → replyRoom ≡ length p
-    → Wrote p 0 (outputFor (take (n - 0) s) (length p)) p′ r → Wrote p 0 (writtenFor (take n s)) p′ r
-reply-read s p n a b c w =
-    let e = within-most (take n s) (rw (length-take n s) (omega arith)) in
-    rw e (rw (sub-zero n, ← c) at w)
-
--- ---- the cut does not matter
 
 -- two inputs that are long enough for settings ask for the same where they agree so far
 module _ (s t : List ℕ) (same : (j : ℕ) → j < settingsBytes → getD s j 0 ≡ getD t j 0) where
@@ -49,8 +43,15 @@ module _ (s t : List ℕ) (same : (j : ℕ) → j < settingsBytes → getD s j 0
   settings-same : settingsBytes ≤ length s → settingsBytes ≤ length t → settingsOf s ≡ settingsOf t
   unfolding settingsOf
   settings-same a b =
-      rw (le-leb settingsBytes (length s) a, le-leb settingsBytes (length t) b, same 0 (omega arith), same 1 (omega arith),
-      number-same 2 (omega arith), number-same 10 (omega arith), number-same 18 (omega arith)) refl
+      rw (
+        le-leb settingsBytes (length s) a,
+        le-leb settingsBytes (length t) b,
+        same 0 (omega arith),
+        same 1 (omega arith),
+        number-same 2 (omega arith),
+        number-same 10 (omega arith),
+        number-same 18 (omega arith),
+      ) refl
 
 -- requests that are too long are refused before anything is read of them
 long-call : (σ : State) (q : List ℕ) (room : ℕ) → mostRequestBytes < length q → call (reads σ) q room ≡ turnedAway LongRequests
@@ -127,3 +128,23 @@ output-fits s room b h =
 -- replies stay within their room, and the record of a refusal has 11 bytes
 pub written-fits : (s : List ℕ) → Bytes s → length (writtenFor s) ≤ replyRoom
 written-fits s b = rw (written-whole s) (output-fits s replyRoom b (omega arith))
+
+-- ---- what the code does: of what was read nothing is cut off
+
+bytes-take : (n : ℕ) (s : List ℕ) → Bytes s → Bytes (take n s)
+bytes-take zero s b j = omega arith
+bytes-take (suc n) [] b j = omega arith
+bytes-take (suc n) (x ∷ xs) b zero = b 0
+bytes-take (suc n) (x ∷ xs) b (suc j) = bytes-take n xs (λ k. b (suc k)) j
+
+-- the part from 0 to n is taken as n - 0 bytes
+module _ (s p : List ℕ) (n : ℕ) {p′ : List ℕ} {r : ℕ} (a : mostInput ≡ length s) (b : n ≤ length s) (c : replyRoom ≡ length p)
+    (w : Wrote p 0 (outputFor (take (n - 0) s) (length p)) p′ r) where
+  pub reply-read : Wrote p 0 (writtenFor (take n s)) p′ r
+  reply-read = rw (within-most (take n s) (rw (length-take n s) (omega arith))) (rw (sub-zero n, ← c) at w)
+
+  pub reply-fits : ((k : ℕ) → Fits· w8 (getD s k 0)) → r ≤ length p′
+  reply-fits f =
+      let d = reply-read in
+      let l = written-fits (take n s) (bytes-take n s (λ k. f k .fits)) in
+      omega (arith, d .end, wrote-length d (omega arith))

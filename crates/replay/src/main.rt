@@ -124,6 +124,7 @@ fn reply_to(input: &[u8], replies: &mut [u8]) -> usize
 fn reply_within(input: &[u8], n: usize, replies: &mut [u8]) -> usize
     requires { ⌜ (mostInput ≡ length (now input)) × (n ≤ length (now input)) × (replyRoom ≡ length (now replies)) ⌝ }
     ensures { λ r. ⌜ Wrote (now (replies .entry)) 0 (writtenFor (take n (now (input .entry)))) (now (replies .exit)) r ⌝ }
+    ensures { λ r. ⌜ r ≤ length (now (replies .exit)) ⌝ }
 {
     reply_to(&input[0..n], replies)
 }
@@ -173,11 +174,11 @@ fn read_all(fd: i32, buf: &mut [u8]) -> Input
 }
 
 // Writes the first n bytes.
-fn put(bytes: &[u8], n: usize) {
-    if n <= bytes.len() {
-        if !io::write_all(STDOUT_FILENO, &bytes[0..n]) {
-            io::write_all(STDERR_FILENO, b"replay: cannot write standard output\n");
-        }
+fn put(bytes: &[u8], n: usize)
+    requires { ⌜ n ≤ length (now bytes) ⌝ }
+{
+    if !io::write_all(STDOUT_FILENO, &bytes[0..n]) {
+        io::write_all(STDERR_FILENO, b"replay: cannot write standard output\n");
     }
 }
 

@@ -1,7 +1,7 @@
 -- `replay::reply_within` meets its contract.
 -- Assumes nothing.
 use borrow.Author.Needs.{needs}
-use Rattle.replay.proofs.WrittenLaws.{reply-read}
+use Rattle.replay.proofs.WrittenLaws.{reply-read, reply-fits}
 use Rattle.replay.proofs.reply_within.Statement.{statement}
 use Rattle.replay.proofs.reply_within.Tie as tie
 
@@ -14,4 +14,4 @@ reply-within-spec =
     (λ c. search needs)
     (λ c κs. search needs)
     (λ c. search needs)
-    (λ c. search (needs, reply-read)))
+    (λ c. (search (needs, reply-read), search (needs, reply-fits))))

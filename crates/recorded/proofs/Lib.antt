@@ -1,1 +1,3 @@
 mod ToldLaws
+mod ComparedLaws
+mod StepsLaws

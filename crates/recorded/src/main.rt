@@ -3,11 +3,15 @@
 // A case: lengths of input and output, 4 bytes each; the input, which is settings and requests; the output, which is their replies on a fresh store.
 // A step: what `Step` has, in 32 bytes; input; output. All steps of a file work on one store.
 ghost use mathlib.Core.Path.{_≡_};
-ghost use Prim.Native.Nat.{_≤_, _^_};
-ghost use lib.ListN.{length};
+ghost use Prim.Native.Nat.{_≤_};
+ghost use lib.ListN.{length, replicate};
+ghost use Rattle.cells.specs.Decides.{Decides};
 ghost use Rattle.s3_fifo.specs.Calls.{gave, turned, createdSays, ranSays};
-ghost use Rattle.rules.specs.Refusals.{numberOf, detailOf};
+ghost use Rattle.rules.specs.Refusals.{numberOf, detailOf, storeBytes};
 ghost use Rattle.recorded.specs.Told.{toldOf};
+ghost use Rattle.recorded.specs.Compared.{AllAre, SameFrom, WroteOnly, keptFrom, AnsweredAs, CreatedAsWritten, RanAsWritten, CaseAsWritten};
+ghost use Rattle.recorded.specs.Steps.{ReadPart, CreatedIn, RanIn, Laid, stepOf, wentAs, moreOf, countedAs};
+ghost use Rattle.recorded.specs.Steps.{Prepared, CreateStepped, CallStepped, RunStepped, Stepped, StepWent, CaseRun, CaseTaken, CaseWent};
 use libc::STDOUT_FILENO;
 use rules::Turned;
 use s3_fifo::Creation;
@@ -76,17 +80,6 @@ fn refused(why: Turned) -> Told
     }
 }
 
-// An answer that no call gives and no step names, whose numbers have 4 bytes: the step asks for more bytes than the buffers have.
-fn nothing_done() -> Told
-    ensures { λ r. ⌜ 2 ^ 32 ≤ r .number ⌝ }
-{
-    Told {
-        number: u64::MAX,
-        detail: 0,
-        count: 0,
-    }
-}
-
 fn created_told(created: Creation) -> Told
     ensures { λ r. ⌜ r ≡ toldOf (createdSays created) ⌝ }
 {
@@ -106,7 +99,9 @@ fn ran_told(ran: Ran) -> Told
 }
 
 // Fills s with one byte.
-fn fill(s: &mut [u8], byte: u8) {
+fn fill(s: &mut [u8], byte: u8)
+    ensures { λ _. ⌜ now (s .exit) ≡ replicate (length (now (s .entry))) byte ⌝ }
+{
     let mut i = 0;
     while i < s.len() {
         s[i] = byte;
@@ -115,7 +110,9 @@ fn fill(s: &mut [u8], byte: u8) {
 }
 
 // Whether all bytes of s are one byte.
-fn all_are(s: &[u8], byte: u8) -> bool {
+fn all_are(s: &[u8], byte: u8) -> bool
+    ensures { λ r. ⌜ Decides (AllAre (now (s .entry)) byte) r ⌝ }
+{
     let mut i = 0;
     while i < s.len() {
         if s[i] != byte {
@@ -127,36 +124,63 @@ fn all_are(s: &[u8], byte: u8) -> bool {
 }
 
 // Reads exactly n bytes to the start of buf, and answers whether there were so many.
-fn read_part(fd: i32, buf: &mut [u8], n: usize) -> bool {
-    if n <= buf.len() {
-        let got = io::read_full(fd, &mut buf[0..n]);
-        got == n
-    } else {
-        false
+fn read_part(fd: i32, buf: &mut [u8], n: usize) -> bool
+    ensures { λ r. ⌜ ReadPart n (now (buf .exit)) r ⌝ }
+{
+    if buf.len() < n {
+        return false;
     }
+    io::read_full(fd, &mut buf[0..n]) == n
+}
+
+// Reads n bytes of input, and after them m bytes of output.
+fn read_both(fd: i32, input: &mut [u8], n: usize, output: &mut [u8], m: usize) -> bool
+    ensures { λ r. ⌜ ReadPart n (now (input .exit)) r × ReadPart m (now (output .exit)) r ⌝ }
+{
+    if !read_part(fd, input, n) {
+        return false;
+    }
+    read_part(fd, output, m)
+}
+
+// Whether a and b are the same bytes.
+fn same(a: &[u8], b: &[u8]) -> bool
+    ensures { λ r. ⌜ Decides (now (a .entry) ≡ now (b .entry)) r ⌝ }
+{
+    check::same(a, b)
 }
 
 // Whether a and b are the same from a place on.
-fn same_from(a: &[u8], b: &[u8], from: usize) -> bool {
-    if from <= a.len() && from <= b.len() {
-        check::same(&a[from..], &b[from..])
-    } else {
-        false
+fn same_from(a: &[u8], b: &[u8], from: usize) -> bool
+    ensures { λ r. ⌜ Decides (SameFrom (now (a .entry)) (now (b .entry)) from) r ⌝ }
+{
+    if a.len() < from {
+        return false;
     }
+    if b.len() < from {
+        return false;
+    }
+    same(&a[from..], &b[from..])
 }
 
 // Whether out starts with all of wanted, and the rest of it is untouched.
-fn wrote_only(out: &[u8], wanted: &[u8]) -> bool {
+fn wrote_only(out: &[u8], wanted: &[u8]) -> bool
+    ensures { λ r. ⌜ Decides (WroteOnly (now (out .entry)) (now (wanted .entry))) r ⌝ }
+{
     let n = wanted.len();
-    if n <= out.len() {
-        check::same(&out[0..n], wanted) && all_are(&out[n..], UNTOUCHED)
-    } else {
-        false
+    if out.len() < n {
+        return false;
     }
+    if !same(&out[0..n], wanted) {
+        return false;
+    }
+    all_are(&out[n..], UNTOUCHED)
 }
 
 // From where on the store must be as before: all of it after a refusal, otherwise what stands behind the bytes that a cache needs.
-fn kept_from(t: Told) -> usize {
+fn kept_from(t: Told) -> usize
+    ensures { λ r. ⌜ r ≡ keptFrom t ⌝ }
+{
     if t.number == 0 {
         S3FifoCache::STORE_BYTES
     } else {
@@ -165,59 +189,118 @@ fn kept_from(t: Told) -> usize {
 }
 
 // Creates in the first n bytes of the store.
-fn create_in(store: &mut [u8], n: usize, settings: Settings) -> Told {
-    if n <= store.len() {
-        let created = S3FifoCache::create(settings, &mut store[0..n]);
-        created_told(created)
-    } else {
-        nothing_done()
-    }
+fn create_in(store: &mut [u8], n: usize, settings: Settings) -> Told
+    requires { ⌜ n ≤ length (now store) ⌝ }
+    ensures { λ r. ⌜ CreatedIn n settings (now (store .entry)) r (now (store .exit)) ⌝ }
+{
+    let created = S3FifoCache::create(settings, &mut store[0..n]);
+    created_told(created)
 }
 
 // Runs on the first n bytes of the store, with the first m bytes for replies.
-fn run_in(store: &mut [u8], n: usize, requests: &[u8], out: &mut [u8], m: usize) -> Told {
-    if n <= store.len() && m <= out.len() {
-        let ran = S3FifoCache::run(&mut store[0..n], requests, &mut out[0..m]);
-        ran_told(ran)
-    } else {
-        nothing_done()
-    }
-}
-
-// Copies all of piece to the start of part, and answers whether it fits.
-fn copy_into(piece: &[u8], part: &mut [u8]) -> bool {
-    if piece.len() <= part.len() {
-        bytes::copy(piece, part);
-        true
-    } else {
-        false
-    }
+fn run_in(store: &mut [u8], n: usize, requests: &[u8], out: &mut [u8], m: usize) -> Told
+    requires { ⌜ (n ≤ length (now store)) × (m ≤ length (now out)) ⌝ }
+    ensures { λ r. ⌜ RanIn n m (now (store .entry)) (now (requests .entry)) (now (out .entry)) r (now (store .exit)) (now (out .exit)) ⌝ }
+{
+    let ran = S3FifoCache::run(&mut store[0..n], requests, &mut out[0..m]);
+    ran_told(ran)
 }
 
 // Lays bytes into the store at a place, and answers whether they fit.
-fn lay(store: &mut [u8], at: usize, piece: &[u8]) -> bool {
-    if at <= store.len() {
-        copy_into(piece, &mut store[at..])
-    } else {
-        false
+fn lay(store: &mut [u8], at: usize, piece: &[u8]) -> bool
+    ensures { λ r. ⌜ Laid at (now (piece .entry)) (now (store .entry)) (now (store .exit)) r ⌝ }
+{
+    if store.len() < at {
+        return false;
     }
+    if store.len() - at < piece.len() {
+        return false;
+    }
+    bytes::copy(piece, &mut store[at..]);
+    true
+}
+
+// Whether a creation answers the number, and keeps of the store what it should.
+fn created_as(number: u32, t: Told, before: &[u8], store: &[u8]) -> bool
+    ensures { λ r. ⌜ Decides (CreatedAsWritten number t (now (before .entry)) (now (store .entry))) r ⌝ }
+{
+    if t.number != number as u64 {
+        return false;
+    }
+    same_from(before, store, kept_from(t))
+}
+
+// Whether a call answers the number, the detail and so many bytes.
+fn answered(number: u32, detail: u64, count: usize, t: Told) -> bool
+    ensures { λ r. ⌜ Decides (AnsweredAs number detail count t) r ⌝ }
+{
+    if t.number != number as u64 {
+        return false;
+    }
+    if t.detail != detail {
+        return false;
+    }
+    t.count == count
+}
+
+// Whether it also writes the output and nothing else, and keeps of the store what it should.
+fn ran_as(s: Step, output: &[u8], t: Told, out: &[u8], before: &[u8], store: &[u8]) -> bool
+    ensures { λ r. ⌜ Decides (RanAsWritten s (now (output .entry)) t (now (out .entry)) (now (before .entry)) (now (store .entry))) r ⌝ }
+{
+    if !answered(s.number, s.detail, output.len(), t) {
+        return false;
+    }
+    if !wrote_only(out, output) {
+        return false;
+    }
+    same_from(before, store, kept_from(t))
 }
 
 // A creation, and whether it answers and keeps what it should.
-fn create_step(s: Step, input: &[u8], store: &mut [u8], before: &mut [u8]) -> bool {
-    if !copy_into(store, before) {
+fn create_step(s: Step, input: &[u8], store: &mut [u8], before: &mut [u8]) -> bool
+    requires { ⌜ length (now store) ≡ length (now before) ⌝ }
+    ensures { λ r. ⌜ CreateStepped s (now (input .entry)) (now (store .entry)) r (now (store .exit)) ⌝ }
+{
+    if store.len() < s.store {
         return false;
     }
+    bytes::copy(store, before);
     match sizing::read_settings(input) {
         Read::Bad => false,
         Read::Asked(settings) => {
             let t = create_in(store, s.store, settings);
-            t.number == s.number as u64 && same_from(store, before, kept_from(t))
+            created_as(s.number, t, before, store)
         }
     }
 }
 
+// Keeps the store as it is before a call, and makes all bytes for the replies untouched.
+fn prepare(store: &[u8], before: &mut [u8], out: &mut [u8])
+    requires { ⌜ length (now store) ≡ length (now before) ⌝ }
+    ensures { λ _. ⌜ Prepared (now (store .entry)) (length (now (out .entry))) (now (before .exit)) (now (out .exit)) ⌝ }
+{
+    bytes::copy(store, before);
+    fill(out, UNTOUCHED);
+}
+
 // A call, and whether it answers, writes and keeps what it should.
+fn call_step(
+    s: Step,
+    input: &[u8],
+    output: &[u8],
+    store: &mut [u8],
+    before: &[u8],
+    out: &mut [u8],
+) -> bool
+    requires { ⌜ (s .store ≤ length (now store)) × (s .room ≤ length (now out)) ⌝ }
+    ensures { λ r. ⌜ CallStepped s (now (input .entry)) (now (output .entry)) (now (before .entry)) (now (store .entry)) (now (out .entry)) r
+        (now (store .exit)) ⌝ }
+{
+    let t = run_in(store, s.store, input, out, s.room);
+    ran_as(s, output, t, out, before, store)
+}
+
+// The same as a step, which may ask for more than there is.
 fn run_step(
     s: Step,
     input: &[u8],
@@ -225,17 +308,18 @@ fn run_step(
     store: &mut [u8],
     before: &mut [u8],
     out: &mut [u8],
-) -> bool {
-    if !copy_into(store, before) {
+) -> bool
+    requires { ⌜ length (now store) ≡ length (now before) ⌝ }
+    ensures { λ r. ⌜ RunStepped s (now (input .entry)) (now (output .entry)) (now (store .entry)) (length (now (out .entry))) r (now (store .exit)) ⌝ }
+{
+    if store.len() < s.store {
         return false;
     }
-    fill(out, UNTOUCHED);
-    let t = run_in(store, s.store, input, out, s.room);
-    t.number == s.number as u64
-        && t.detail == s.detail
-        && t.count == output.len()
-        && wrote_only(out, output)
-        && same_from(store, before, kept_from(t))
+    if out.len() < s.room {
+        return false;
+    }
+    prepare(store, before, out);
+    call_step(s, input, output, store, before, out)
 }
 
 // One step, and whether it went as written.
@@ -246,7 +330,10 @@ fn take_step(
     store: &mut [u8],
     before: &mut [u8],
     out: &mut [u8],
-) -> bool {
+) -> bool
+    requires { ⌜ length (now store) ≡ length (now before) ⌝ }
+    ensures { λ r. ⌜ Stepped s (now (input .entry)) (now (output .entry)) (now (store .entry)) (length (now (out .entry))) r (now (store .exit)) ⌝ }
+{
     let kind = s.kind;
     match kind {
         0 => {
@@ -260,25 +347,42 @@ fn take_step(
     }
 }
 
+// Whether a case's call answers that all went well, and writes the output and nothing else.
+fn case_as(output: &[u8], t: Told, out: &[u8]) -> bool
+    ensures { λ r. ⌜ Decides (CaseAsWritten (now (output .entry)) t (now (out .entry))) r ⌝ }
+{
+    if !answered(0, 0, output.len(), t) {
+        return false;
+    }
+    wrote_only(out, output)
+}
+
+// The requests behind the settings, on the store that they made.
+fn run_case(requests: &[u8], output: &[u8], store: &mut [u8], out: &mut [u8]) -> bool
+    requires { ⌜ storeBytes ≤ length (now store) ⌝ }
+    ensures { λ r. ⌜ CaseRun (now (requests .entry)) (now (output .entry)) (now (store .entry)) (length (now (out .entry))) r ⌝ }
+{
+    fill(out, UNTOUCHED);
+    let t = run_in(store, S3FifoCache::STORE_BYTES, requests, out, out.len());
+    case_as(output, t, out)
+}
+
 // One case: settings and requests on a fresh store.
-fn take_case(input: &[u8], output: &[u8], store: &mut [u8], out: &mut [u8]) -> bool {
+fn take_case(input: &[u8], output: &[u8], store: &mut [u8], out: &mut [u8]) -> bool
+    requires { ⌜ storeBytes ≤ length (now store) ⌝ }
+    ensures { λ r. ⌜ CaseTaken (now (input .entry)) (now (output .entry)) (now (store .entry)) (length (now (out .entry))) r ⌝ }
+{
+    if input.len() < sizing::SETTINGS_BYTES {
+        return false;
+    }
     match sizing::read_settings(input) {
         Read::Bad => false,
         Read::Asked(settings) => {
-            fill(out, UNTOUCHED);
             let made = create_in(store, S3FifoCache::STORE_BYTES, settings);
-            if made.number == 0 && sizing::SETTINGS_BYTES <= input.len() {
-                let t = run_in(
-                    store,
-                    S3FifoCache::STORE_BYTES,
-                    &input[sizing::SETTINGS_BYTES..],
-                    out,
-                    out.len(),
-                );
-                t.number == 0 && t.count == output.len() && wrote_only(out, output)
-            } else {
-                false
+            if made.number != 0 {
+                return false;
             }
+            run_case(&input[sizing::SETTINGS_BYTES..], output, store, out)
         }
     }
 }
@@ -286,6 +390,7 @@ fn take_case(input: &[u8], output: &[u8], store: &mut [u8], out: &mut [u8]) -> b
 // The step that 32 bytes hold.
 fn step_of(head: &[u8]) -> Step
     requires { ⌜ 32 ≤ length (now head) ⌝ }
+    ensures { λ r. ⌜ r ≡ stepOf (now (head .entry)) ⌝ }
 {
     Step {
         kind: cells::get32(head, 0),
@@ -298,7 +403,9 @@ fn step_of(head: &[u8]) -> Step
     }
 }
 
-fn went(well: bool) -> Case {
+fn went(well: bool) -> Case
+    ensures { λ r. ⌜ r ≡ wentAs well ⌝ }
+{
     if well { Case::Same } else { Case::Differs }
 }
 
@@ -310,14 +417,13 @@ fn step_with(
     store: &mut [u8],
     before: &mut [u8],
     out: &mut [u8],
-) -> Case {
+) -> Case
+    requires { ⌜ (s .input ≤ length (now input)) × (s .output ≤ length (now output)) × (length (now store) ≡ length (now before)) ⌝ }
+    ensures { λ r. ⌜ StepWent s (now (input .entry)) (now (output .entry)) (now (store .entry)) (length (now (out .entry))) r (now (store .exit)) ⌝ }
+{
     let n = s.input;
     let m = s.output;
-    if n <= input.len() && m <= output.len() {
-        went(take_step(s, &input[0..n], &output[0..m], store, before, out))
-    } else {
-        Case::Broken
-    }
+    went(take_step(s, &input[0..n], &output[0..m], store, before, out))
 }
 
 // Takes the case that is the first n bytes of input and the first m of output.
@@ -328,12 +434,29 @@ fn case_with(
     output: &[u8],
     store: &mut [u8],
     out: &mut [u8],
-) -> Case {
-    if n <= input.len() && m <= output.len() {
-        went(take_case(&input[0..n], &output[0..m], store, out))
-    } else {
-        Case::Broken
+) -> Case
+    requires { ⌜ (n ≤ length (now input)) × (m ≤ length (now output)) × (storeBytes ≤ length (now store)) ⌝ }
+    ensures { λ r. ⌜ CaseWent n m (now (input .entry)) (now (output .entry)) (now (store .entry)) (length (now (out .entry))) r ⌝ }
+{
+    went(take_case(&input[0..n], &output[0..m], store, out))
+}
+
+// Reads what the step s says, and takes it.
+fn read_step(
+    fd: i32,
+    s: Step,
+    input: &mut [u8],
+    output: &mut [u8],
+    store: &mut [u8],
+    before: &mut [u8],
+    out: &mut [u8],
+) -> Case
+    requires { ⌜ length (now store) ≡ length (now before) ⌝ }
+{
+    if !read_both(fd, input, s.input, output, s.output) {
+        return Case::Broken;
     }
+    step_with(s, input, output, store, before, out)
 }
 
 // The next step of a file.
@@ -344,7 +467,9 @@ fn one_step(
     store: &mut [u8],
     before: &mut [u8],
     out: &mut [u8],
-) -> Case {
+) -> Case
+    requires { ⌜ length (now store) ≡ length (now before) ⌝ }
+{
     let mut head = [0u8; 32];
     let got = io::read_full(fd, &mut head);
     if got == 0 {
@@ -353,24 +478,31 @@ fn one_step(
     if got < 32 {
         return Case::Broken;
     }
-    let s = step_of(&head);
-    if !read_part(fd, input, s.input) {
-        return Case::Broken;
-    }
-    if !read_part(fd, output, s.output) {
-        return Case::Broken;
-    }
-    step_with(s, input, output, store, before, out)
+    read_step(fd, step_of(&head), input, output, store, before, out)
 }
 
-// The next case of a file.
-fn one_case(
+// Reads a case of n and m bytes, and takes it.
+fn read_case(
     fd: i32,
+    n: usize,
+    m: usize,
     input: &mut [u8],
     output: &mut [u8],
     store: &mut [u8],
     out: &mut [u8],
-) -> Case {
+) -> Case
+    requires { ⌜ storeBytes ≤ length (now store) ⌝ }
+{
+    if !read_both(fd, input, n, output, m) {
+        return Case::Broken;
+    }
+    case_with(n, m, input, output, store, out)
+}
+
+// The next case of a file.
+fn one_case(fd: i32, input: &mut [u8], output: &mut [u8], store: &mut [u8], out: &mut [u8]) -> Case
+    requires { ⌜ storeBytes ≤ length (now store) ⌝ }
+{
     let mut head = [0u8; 8];
     let got = io::read_full(fd, &mut head);
     if got == 0 {
@@ -381,16 +513,13 @@ fn one_case(
     }
     let n = cells::get32(&head, 0) as usize;
     let m = cells::get32(&head, 4) as usize;
-    if !read_part(fd, input, n) {
-        return Case::Broken;
-    }
-    if !read_part(fd, output, m) {
-        return Case::Broken;
-    }
-    case_with(n, m, input, output, store, out)
+    read_case(fd, n, m, input, output, store, out)
 }
 
-fn more(n: u64) -> u64 {
+// One more, as far as there are numbers.
+fn more(n: u64) -> u64
+    ensures { λ r. ⌜ r ≡ moreOf n ⌝ }
+{
     if n < u64::MAX { n + 1 } else { n }
 }
 
@@ -402,7 +531,9 @@ fn complain(number: u64) {
 }
 
 // The tally after one more.
-fn counted(t: Tally, c: Case) -> Tally {
+fn counted(t: Tally, c: Case) -> Tally
+    ensures { λ r. ⌜ r ≡ countedAs t c ⌝ }
+{
     match c {
         Case::Same => Tally {
             taken: more(t.taken),
@@ -444,7 +575,9 @@ fn turn(
     store: &mut [u8],
     before: &mut [u8],
     out: &mut [u8],
-) -> Tally {
+) -> Tally
+    requires { ⌜ (storeBytes ≤ length (now store)) × (length (now store) ≡ length (now before)) ⌝ }
+{
     if steps {
         let c = one_step(fd, input, output, store, before, out);
         counted(t, c)
@@ -463,7 +596,9 @@ fn replay_all(
     store: &mut [u8],
     before: &mut [u8],
     out: &mut [u8],
-) -> Tally {
+) -> Tally
+    requires { ⌜ (storeBytes ≤ length (now store)) × (length (now store) ≡ length (now before)) ⌝ }
+{
     let mut t = Tally {
         taken: 0,
         differ: 0,

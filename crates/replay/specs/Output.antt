@@ -2,12 +2,12 @@
 -- Assumes nothing.
 use mathlib.Core.Path.{_≡_}
 use mathlib.Core.List.{List, _++_}
-use Prim.Native.Nat.{ℕ}
-use lib.ListN.{drop}
+use Prim.Native.Nat.{ℕ, _+_}
+use lib.ListN.{take, drop}
 use Rattle.rules.specs.Bytes.{mark, bytesOf}
 use Rattle.rules.specs.Sizing.{Asked, asks, noSettings, settingsBytes, settingsOf}
 use Rattle.rules.specs.State.{State}
-use Rattle.rules.specs.Refusals.{storeBytes}
+use Rattle.rules.specs.Refusals.{storeBytes, mostRequestBytes}
 use Rattle.rules.specs.Verdict.{Verdict, refused, done, create, reads, call}
 use Rattle.wire.specs.Wire.{Wrote}
 use Rattle.s3_fifo.specs.Calls.{Said, gave, turned}
@@ -38,6 +38,23 @@ onAsked (asks capacity small ghost) q room = onCreated (create capacity small gh
 unfoldable pub outputFor : List ℕ → ℕ → List ℕ
 unfolding settingsOf create call bytesOf
 outputFor s room = printed (onAsked (settingsOf s) (drop settingsBytes s) room)
+
+-- ---- the whole program
+
+-- of its input the program looks at no more: the settings, the longest requests of a call, and one byte, so that more than that shows
+abbrev pub mostInput : ℕ
+mostInput = settingsBytes + mostRequestBytes + 1
+
+-- and it has so many bytes for replies
+abbrev pub replyRoom : ℕ
+replyRoom = 65536
+
+-- what it writes for an input of any length
+unfoldable pub writtenFor : List ℕ → List ℕ
+unfolding outputFor
+writtenFor s = outputFor (take mostInput s) replyRoom
+
+-- ---- the steps to it
 
 -- after a call: its replies stand already, and a refusal is written over what was there
 abbrev pub Finished : Said → List ℕ → List ℕ → ℕ → Type 0

@@ -1,13 +1,14 @@
 // The replay program (RULES 9): settings and requests from standard input, replies or one NO record to standard output, in binary.
-// What it writes for an input is one function over slices with its contract, `reply_to`; the rest reads and writes.
+// What it writes for what it has read is one function over slices with its contract, `reply_within`; the rest reads and writes.
 ghost use mathlib.Core.Path.{_≡_};
 ghost use Prim.Native.Nat.{_-_, _≤_};
-ghost use lib.ListN.{length};
+ghost use lib.ListN.{length, take};
 ghost use Rattle.rules.specs.Refusals.{storeBytes};
 ghost use Rattle.sizing.specs.Answers.{asksOf};
 ghost use Rattle.wire.specs.Wire.{Wrote};
 ghost use Rattle.s3_fifo.specs.Calls.{ranSays};
 ghost use Rattle.replay.specs.Output.{noRecord, noBytes, printed, onAsked, outputFor, Finished};
+ghost use Rattle.replay.specs.Output.{mostInput, replyRoom, writtenFor};
 ghost use Rattle.replay.specs.Input.{Within, AtMost};
 ghost use Rattle.rules.specs.Refusals.{numberOf, detailOf};
 use libc::STDERR_FILENO;
@@ -41,7 +42,7 @@ enum Input {
 
 // Zeros, of which the contract gives the number alone, so that no proof has to write them out.
 fn input_buffer() -> [u8; MOST_INPUT_BYTES]
-    ensures { λ r. ⌜ 32795 ≡ length r ⌝ }
+    ensures { λ r. ⌜ mostInput ≡ length r ⌝ }
 {
     [0; MOST_INPUT_BYTES]
 }
@@ -99,7 +100,7 @@ fn run_on(store: &mut [u8], settings: Settings, requests: &[u8], replies: &mut [
     }
 }
 
-// What the program writes for an input: it stands at the start of the replies, and the result is how many bytes it has.
+// The output for an input: it stands at the start of the replies, and the result is how many bytes it has.
 fn reply_to(input: &[u8], replies: &mut [u8]) -> usize
     requires { ⌜ noBytes ≤ length (now replies) ⌝ }
     ensures { λ r. ⌜ Wrote (now (replies .entry)) 0 (outputFor (now (input .entry)) (length (now (replies .entry)))) (now (replies .exit)) r ⌝ }
@@ -117,6 +118,15 @@ fn reply_to(input: &[u8], replies: &mut [u8]) -> usize
             )
         }
     }
+}
+
+// What the program writes for what it has read, which is the first n bytes.
+fn reply_within(input: &[u8], n: usize, replies: &mut [u8]) -> usize
+    requires { ⌜ (mostInput ≡ length (now input)) × (n ≤ length (now input)) × (replyRoom ≡ length (now replies)) ⌝ }
+    ensures { λ r. ⌜ Wrote (now (replies .entry)) 0 (writtenFor (take n (now (input .entry)))) (now (replies .exit)) r ⌝ }
+    ensures { λ r. ⌜ r ≤ length (now (replies .exit)) ⌝ }
+{
+    reply_to(&input[0..n], replies)
 }
 
 // One read, into all of part.
@@ -144,7 +154,7 @@ fn read_at(fd: i32, buf: &mut [u8], at: usize) -> Piece
 
 // Reads until buf is full or the input ends, and tells a read that failed from the end.
 fn read_all(fd: i32, buf: &mut [u8]) -> Input
-    ensures { λ r. ⌜ AtMost r (length (now (buf .entry))) ⌝ }
+    ensures { λ r. ⌜ AtMost r (length (now (buf .exit))) ⌝ }
 {
     let mut done = 0;
     while done < buf.len() {
@@ -164,21 +174,21 @@ fn read_all(fd: i32, buf: &mut [u8]) -> Input
 }
 
 // Writes the first n bytes.
-fn put(bytes: &[u8], n: usize) {
-    if n <= bytes.len() {
-        if !io::write_all(STDOUT_FILENO, &bytes[0..n]) {
-            io::write_all(STDERR_FILENO, b"replay: cannot write standard output\n");
-        }
+fn put(bytes: &[u8], n: usize)
+    requires { ⌜ n ≤ length (now bytes) ⌝ }
+{
+    if !io::write_all(STDOUT_FILENO, &bytes[0..n]) {
+        io::write_all(STDERR_FILENO, b"replay: cannot write standard output\n");
     }
 }
 
-// Writes what the program writes for the first n bytes.
-fn answer(input: &[u8], n: usize) {
-    if n <= input.len() {
-        let mut replies = io::large_buffer();
-        let count = reply_to(&input[0..n], &mut replies);
-        put(&replies, count);
-    }
+// Writes it.
+fn answer(input: &[u8], n: usize)
+    requires { ⌜ (mostInput ≡ length (now input)) × (n ≤ length (now input)) ⌝ }
+{
+    let mut replies = io::large_buffer();
+    let count = reply_within(input, n, &mut replies);
+    put(&replies, count);
 }
 
 // All of standard input, answered on standard output.

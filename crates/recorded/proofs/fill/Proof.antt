@@ -1,14 +1,15 @@
--- `recorded::fill` is safe and ends: each turn takes one byte off what is left.
+-- `recorded::fill` meets its contract: each turn writes one byte more.
 -- Assumes nothing.
-use Prim.Native.Nat.{_-_}
+use borrow.Author.Needs.{needs}
+use Prim.Native.Nat.{_≤_, _-_}
 use mathlib.Core.Path.{_≡_}
 use lib.ListN.{length}
-use borrow.Author.Needs.{needs}
+use Rattle.recorded.proofs.ComparedLaws.{Front, front-start, front-set, front-whole}
 use Rattle.recorded.proofs.fill.Statement.{statement}
 use Rattle.recorded.proofs.fill.Tie as tie
 
 abbrev Inv-loop : tie.InvT-loop
-Inv-loop s₀ byte i₀ s i = length s ≡ length s₀
+Inv-loop s₀ byte i₀ s i = (i ≤ length s₀) × (length s ≡ length s₀) × Front s byte i
 
 abbrev μ-loop : tie.MeasureT-loop
 μ-loop s₀ byte i₀ s i = length s₀ - i
@@ -19,10 +20,10 @@ fill-spec =
     (tie.spec
     Inv-loop
     μ-loop
+    (λ c. (search needs, search needs, search front-start))
     (λ c. search needs)
     (λ c. search needs)
     (λ c. search needs)
+    (λ c. (search needs, search needs, search (needs, front-set)))
     (λ c. search needs)
-    (λ c. search needs)
-    (λ c. search needs)
-    (λ c. search needs))
+    (λ c. search (needs, front-whole)))

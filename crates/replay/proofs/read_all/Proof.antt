@@ -1,6 +1,6 @@
 -- `replay::read_all` meets its contract: the measure is the room that is left.
 -- Assumes nothing.
-use Prim.Native.Nat.{_≤_, _-_}
+use Prim.Native.Nat.{_≤_, _<_, _-_}
 use mathlib.Core.Path.{_≡_}
 use lib.ListN.{length}
 use borrow.Author.Needs.{needs}
@@ -14,14 +14,10 @@ Inv-loop fd buf₀ done₀ buf done = (done ≤ length buf₀) × (length buf �
 abbrev μ-loop : tie.MeasureT-loop
 μ-loop fd buf₀ done₀ buf done = length buf₀ - done
 
-add-done : tie.Need-add-done Inv-loop μ-loop
-add-done c = let w = within-bytes (c .before .n .given .1) (c .before .before .before .before .before .read-at .ensures) in search needs
-
-loop-less : tie.Need-loop-less Inv-loop μ-loop
-loop-less c = let w = within-bytes (c .before .n .given .1) (c .before .before .before .before .before .read-at .ensures) in search needs
-
-loop-again : tie.Need-loop-again Inv-loop μ-loop
-loop-again c = let w = within-bytes (c .before .n .given .1) (c .before .before .before .before .before .read-at .ensures) in search needs
+-- a read that gave bytes gave some, and no more than there was room for
+gained : (c : tie.After-known-told Inv-loop μ-loop) → let l = c .before .before .before .before .before .before .before .before .loop in
+    (0 < c .before .n .given .0 .0) × (c .before .n .given .0 .0 ≤ length (l .buf) - l .done)
+gained c = within-bytes (c .before .n .given .1) (c .before .before .before .before .before .read-at .ensures)
 
 pub read-all-spec : {M : Type 1} → statement M
 read-all-spec =
@@ -32,9 +28,9 @@ read-all-spec =
     (λ c. search needs)
     (λ c κs. search needs)
     (λ c. search needs)
-    add-done
-    loop-less
-    loop-again
+    (λ c. let g = gained c in search needs)
+    (λ c. let g = gained c in search needs)
+    (λ c. let g = gained c in search needs)
     (λ c. search needs)
     (λ c. search needs)
     (λ c. search needs)

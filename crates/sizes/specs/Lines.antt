@@ -1,4 +1,4 @@
--- What the line on a record says, by the rules (01, "Sizing").
+-- What the line on a record says, by the rules (RULES 2).
 -- Assumes nothing.
 use mathlib.Core.List.{List}
 use Prim.Native.Nat.{ℕ}

@@ -91,6 +91,7 @@ store-example: $(ARCHIVE) $(HEADER)
 tidy:
 	@tools/tidy
 	@python3 tests/tools/test_tidy.py
+	@python3 tests/tools/test_edits_judge.py
 
 # What is run outside the prover.
 RUN_OUTSIDE := machine host-test constants store-example replay-streams replay-cases fuzz-gate differential-gate

@@ -120,6 +120,7 @@ chains: | $(HOST)
 tidy:
 	@tools/tidy
 	@python3 tests/tools/test_tidy.py
+	@python3 tests/tools/test_edits_judge.py
 	@tools/believe --check
 	@python3 tests/tools/test_believe.py
 

@@ -75,7 +75,7 @@ endif
 # What a rule did not write to its end is not there.
 .DELETE_ON_ERROR:
 
-.PHONY: all help clean library replay run tidy gate-test chains store-example
+.PHONY: all help clean library replay run tidy gate-test chains sentences store-example
 
 help:
 	@sed -n 's/^#   \(make.*\)/  \1/p' Makefile mk/*.mk
@@ -116,6 +116,10 @@ store-example: $(ARCHIVE) $(HEADER)
 chains: | $(HOST)
 	@python3 tests/store/chains.py > $(HOST)/chains.md
 	@python3 tests/docs/tables.py docs/STORE.md $(HOST)/chains.md
+
+# Figures of documents that follow from files alone; `make figures` has all.
+sentences:
+	@python3 tests/docs/figures.py
 
 tidy:
 	@tools/tidy

@@ -7,7 +7,7 @@
 TALLY := $(HOST)/tally
 
 # What is fast comes first.
-AT_ONCE := tidy generated chains gate-test rust-fmt
+AT_ONCE := tidy generated chains sentences gate-test rust-fmt
 
 # What is run outside the prover, once rt ci has proved it. HOSTS=none is for a machine of another processor that cannot run
 # hosts: the proofs are the same there.

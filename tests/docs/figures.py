@@ -1,7 +1,8 @@
 #!/usr/bin/env python3
 """The figures of the documents are those that the gate's runs have just printed.
 
-usage: figures.py SAID MACHINE [without-original]
+usage: figures.py                                    those that follow from files alone
+       figures.py SAID MACHINE [without-original]    all
 
 SAID is the folder where the runs left what they printed (Makefile, `said`), MACHINE is x86-64 or other: under an emulator the
 gate runs less, and the table of docs/RELIABILITY.md has a column for each. What is compared:
@@ -130,8 +131,8 @@ def wrong_rows(said, machine, original):
         yield f"{TABLE}: nothing prints '{name}'"
 
 
-def sentences(said, original):
-    """(document, what must stand in it)."""
+def sentences_of_files():
+    """(document, what must stand in it), as files of the repository say."""
     constants = dict(line.split() for line in read("crates/constants/stdout").splitlines())
     store, requests = (grouped(constants[name]) for name in ("store_bytes", "most_request_bytes"))
     yield "README.md", f"{store} bytes, lent to each call"
@@ -159,19 +160,21 @@ def sentences(said, original):
         low, high = (f"{round(end, 1):.1f}" for end in (min(ratios), max(ratios)))
         yield "README.md", f"{low} to {high} times" + (" the original's time" if capacity == "100" else "") + f" at capacity {int(capacity):,}"
 
-    if original:
-        recorded = Printed(said, "record")
-        few, many, most = (recorded(rf"^crates/recorded/data/{name}.bin: (\d+) cases are") for name in ("few", "many", "most"))
-        total = sum(int(number.replace(",", "")) for number in (few, many, most))
-        yield "docs/DIFFERENCES.md", f"crates/recorded/data has {total:,} cases of the original's answers: {few} short runs"
-        yield "docs/DIFFERENCES.md", f"{many} runs at capacities up to 1,024, and {most} calls as long as a call can be"
-        ghosts = r"^crates/ghosts/stdin: (\d+) operations \((\d+) new, (\d+) record, (\d+) remove, (\d+) evict_lru, (\d+) clear\)"
-        operations, lists, record, remove, oldest, clear = recorded(ghosts)
-        limits, full, there, none = records_of_ghosts()
-        yield "docs/DIFFERENCES.md", f"{operations} operations on {lists} lists of limits {limits}."
-        yield "docs/DIFFERENCES.md", f"Of them {record} record a key ({full} on a full list, {there} a key that is there already, {none} at limit 0)"
-        yield "docs/DIFFERENCES.md", f"{remove} remove one, {oldest} take the oldest, {clear} clear"
-        yield "docs/DIFFERENCES.md", f"The run fails if any of {kinds_of_event(said)} kinds of event"
+
+def sentences_of_runs(said):
+    """The same, as the runs against the original have printed."""
+    recorded = Printed(said, "record")
+    few, many, most = (recorded(rf"^crates/recorded/data/{name}.bin: (\d+) cases are") for name in ("few", "many", "most"))
+    total = sum(int(number.replace(",", "")) for number in (few, many, most))
+    yield "docs/DIFFERENCES.md", f"crates/recorded/data has {total:,} cases of the original's answers: {few} short runs"
+    yield "docs/DIFFERENCES.md", f"{many} runs at capacities up to 1,024, and {most} calls as long as a call can be"
+    ghosts = r"^crates/ghosts/stdin: (\d+) operations \((\d+) new, (\d+) record, (\d+) remove, (\d+) evict_lru, (\d+) clear\)"
+    operations, lists, record, remove, oldest, clear = recorded(ghosts)
+    limits, full, there, none = records_of_ghosts()
+    yield "docs/DIFFERENCES.md", f"{operations} operations on {lists} lists of limits {limits}."
+    yield "docs/DIFFERENCES.md", f"Of them {record} record a key ({full} on a full list, {there} a key that is there already, {none} at limit 0)"
+    yield "docs/DIFFERENCES.md", f"{remove} remove one, {oldest} take the oldest, {clear} clear"
+    yield "docs/DIFFERENCES.md", f"The run fails if any of {kinds_of_event(said)} kinds of event"
 
 
 def kinds_of_event(said):
@@ -231,9 +234,9 @@ def ratios_of_speed():
     return found
 
 
-def wrong_sentences(said, original):
+def wrong_sentences(sentences):
     documents = {}
-    for name, sentence in sentences(said, original):
+    for name, sentence in sentences:
         if name not in documents:
             documents[name] = " ".join(read(name).split())
         if sentence not in documents[name]:
@@ -241,18 +244,27 @@ def wrong_sentences(said, original):
 
 
 def main():
-    said, machine, *without = sys.argv[1:]
-    original = without != ["without-original"]
     try:
-        wrong = [*wrong_rows(said, machine, original), *wrong_sentences(said, original), *wrong_axioms()]
+        wrong, compared = compare(*sys.argv[1:])
     except FileNotFoundError as missing:
         sys.exit(f"figures: {missing.filename} is not there: `make test` leaves it, or the target that prints it")
     for problem in wrong:
         print(f"figures: {problem}", file=sys.stderr)
     if wrong:
         sys.exit(1)
-    compared = len(list(rows(said, machine, original))) + len(list(sentences(said, original)))
-    print(f"figures: {compared} of the documents are those that were printed{'' if original else ' (without those of the original)'}")
+    print(f"figures: {compared}")
+
+
+def compare(said=None, machine=None, *without):
+    """What is wrong, and what was compared, in words."""
+    sentences = list(sentences_of_files())
+    if said is None:
+        return list(wrong_sentences(sentences)), f"{len(sentences)} sentences of the documents are what the files say"
+    original = without != ("without-original",)
+    sentences += sentences_of_runs(said) if original else []
+    wrong = [*wrong_rows(said, machine, original), *wrong_sentences(sentences), *wrong_axioms()]
+    count = len(sentences) + len(dict(rows(said, machine, original)))
+    return wrong, f"{count} of the documents are those that were printed{'' if original else ' (without those of the original)'}"
 
 
 if __name__ == "__main__":

@@ -30,11 +30,11 @@ MACHINE := some
 HOST := target/host
 SAID := target/host/said
 include mk/gate.mk
-tidy generated chains gate-test rust-fmt library replay rust-clippy $(RUN_OUTSIDE):
+tidy generated chains sentences gate-test rust-fmt library replay rust-clippy $(RUN_OUTSIDE):
 	@echo $@ >> "$$RAN"; test "$$FAIL" != $@ || {{ echo "$@ fails" >&2; exit 7; }}
 """
 
-FIRST = ["rt fmt", "tidy", "generated", "chains", "gate-test", "rust-fmt", "rt ci", "library", "replay"]
+FIRST = ["rt fmt", "tidy", "generated", "chains", "sentences", "gate-test", "rust-fmt", "rt ci", "library", "replay"]
 OUTSIDE = ["rust-clippy", "machine", "host-test", "constants", "store-example", "replay-streams", "replay-cases", "fuzz-gate",
            "differential-gate"]
 LAST = ["figures", "edits-judge"]
@@ -92,8 +92,8 @@ class Gate(unittest.TestCase):
             self.assertNotEqual(status, 0, step)
             self.assertNotEqual(shown[-1], TALLY, step)
             self.assertIn(f"{step} fails", shown)
-            self.assertEqual("rt ci" in ran, step not in FIRST[:6], step)
-            self.assertEqual(shown.count(TALLY), int(step not in FIRST[:7]), step)
+            self.assertEqual("rt ci" in ran, step not in FIRST[:FIRST.index('rt ci')], step)
+            self.assertEqual(shown.count(TALLY), int(step not in FIRST[:FIRST.index('rt ci') + 1]), step)
 
     def test_rt_ci_fails(self):
         for says, ends in [("2 passed, 1 failed", 1), (TALLY, 1), (TALLY, 2)]:

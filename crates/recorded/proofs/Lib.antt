@@ -1,3 +1,4 @@
 mod ToldLaws
 mod ComparedLaws
 mod StepsLaws
+mod FreshLaws

@@ -11,7 +11,7 @@ use lib.Seq.{take-all, drop-drop, take-length}
 use borrow.Author.Tests.{not-false, le-leb, lt-leb, lt-ltb, le-ltb}
 use Rattle.cells.specs.Cells.{le}
 use Rattle.cells.specs.Decides.{Decides}
-use Rattle.rules.specs.Sizing.{noSettings, settingsBytes, settingsOf}
+use Rattle.rules.specs.Sizing.{settingsOf}
 use Rattle.rules.specs.Refusals.{storeBytes}
 use Rattle.sizing.specs.declared.Settings.{Settings}
 use Rattle.sizing.specs.declared.Read.{Read}
@@ -29,7 +29,8 @@ use Rattle.recorded.specs.Told.{toldOf}
 use Rattle.recorded.specs.Compared.{unwritten, CreatedAsWritten, CaseAsWritten}
 use Rattle.recorded.specs.Steps.{Prepared, CallStepped, CreateStepped, lentTooMuch, badSettings, creates, RunStepped, storeTooLong, roomTooLong, runs}
 use Rattle.recorded.specs.Steps.{Stepped, fillStep, layStep, createStep, runStep, noStep, StepWent}
-use Rattle.recorded.specs.Steps.{CaseRun, CaseTaken, noCase, notMade, made, CaseWent}
+use Rattle.recorded.specs.Fresh.{Accepted}
+use Rattle.recorded.specs.Steps.{CaseRun, CaseWent}
 use Rattle.recorded.specs.Steps.{ReadPart, stepOf, CreatedIn, RanIn, Laid, wentAs, moreOf, countedAs}
 
 -- ---- files
@@ -105,11 +106,6 @@ module _ (at : ℕ) (piece s : List ℕ) where
 
 -- ---- steps
 
--- settings that are too short are none
-short-none : (q : List ℕ) → length q < settingsBytes → settingsOf q ≡ noSettings
-unfolding settingsOf
-short-none q h = rw (lt-leb settingsBytes (length q) h) refl
-
 -- what was copied is all there was
 copied : (s b : List ℕ) {b′ : List ℕ} → length s ≡ length b → b′ ≡ take (length s) s ++ drop (length s) b → b′ ≡ s
 copied s b h e = e ∙ rw (take-length s, drop-of-length-le b {i = length s} (omega arith), append-nil s) refl
@@ -181,28 +177,9 @@ case-run {q} {w} {store} {p} {out′} {store′} {room} {t} e c l d =
       says = d;
     }
 
-module _ {q w store : List ℕ} {room : ℕ} where
-  pub case-short : length q < settingsBytes → CaseTaken q w store room false
-  case-short h = noCase (short-none q h) refl
-
-  pub case-bad : {read : Read} → read ≡ Bad → askedOf read ≡ settingsOf q → CaseTaken q w store room false
-  case-bad e f = noCase (sym f ∙ ap askedOf e) refl
-
-  module _ {read : Read} {settings : Settings} {t : Told} {store₁ : List ℕ} (e : read ≡ Asked settings) (f : askedOf read ≡ settingsOf q)
-      (c : CreatedIn storeBytes settings store t store₁) where
-    pub case-refused : (t .number ≡ 0 → ⊥) → CaseTaken q w store room false
-    case-refused n = notMade settings t store₁ (sym (ap askedOf e) ∙ f) c n refl
-
-    pub case-made : {r : Bool} → t .number ≡ 0 → CaseRun (take (length q - settingsBytes) (drop settingsBytes q)) w store₁ room r
-        → CaseTaken q w store room r
-    case-made {r} n d =
-        made settings t store₁ (sym (ap askedOf e) ∙ f) c n
-        (subst (λ (x : List ℕ). CaseRun x w store₁ room r)
-        (take-all (length q - settingsBytes) (drop settingsBytes q) (simp length-drop (omega arith))) d)
-
-pub case-went : {n m : ℕ} {input output store : List ℕ} {room : ℕ} {b : Bool} {r : Case} → CaseTaken (take (n - 0) input) (take (m - 0) output) store room b
-    → r ≡ wentAs b → CaseWent n m input output store room r
-case-went {n} {m} {input} {output} {store} {room} {b} {r} d e =
+pub case-went : {n m : ℕ} {input output : List ℕ} {room : ℕ} {b : Bool} {r : Case} → Decides (Accepted (take (n - 0) input) room (take (m - 0) output)) b
+    → r ≡ wentAs b → CaseWent n m input output room r
+case-went {n} {m} {b = b} d e =
     record { well = b; taken = rw (sub-zero n, sub-zero m) at d; is = e }
 
 -- ---- the tally

@@ -1,3 +1,4 @@
 pub mod Told
 pub mod Compared
+pub mod Fresh
 pub mod Steps

@@ -8,7 +8,7 @@ use lib.Dec.{leb, ltb}
 use lib.ListN.{length, take, drop, replicate}
 use Rattle.cells.specs.Cells.{le}
 use Rattle.cells.specs.Decides.{Decides}
-use Rattle.rules.specs.Sizing.{noSettings, settingsBytes, settingsOf}
+use Rattle.rules.specs.Sizing.{noSettings, settingsOf}
 use Rattle.rules.specs.Refusals.{storeBytes}
 use Rattle.sizing.specs.declared.Settings.{Settings}
 use Rattle.sizing.specs.Answers.{asksOf}
@@ -22,6 +22,7 @@ use Rattle.recorded.specs.declared.Case.the-variants.{Same, Differs, End
 use Rattle.recorded.specs.declared.Tally.{Tally}
 use Rattle.recorded.specs.Told.{toldOf}
 use Rattle.recorded.specs.Compared.{unwritten, CreatedAsWritten, RanAsWritten, CaseAsWritten}
+use Rattle.recorded.specs.Fresh.{Accepted}
 
 -- ---- files
 
@@ -104,14 +105,6 @@ pub record CaseRun (q w store : List ℕ) (room : ℕ) (r : Bool) : Type 0 where
   pub ran : RanIn storeBytes room store q (replicate room unwritten) told store′ out
   pub says : Decides (CaseAsWritten w told out) r
 
--- a case: its settings are none, or are refused, or the requests behind them are run
-pub data CaseTaken (q w store : List ℕ) (room : ℕ) (r : Bool) : Type 0 where
-  noCase : settingsOf q ≡ noSettings → r ≡ false → CaseTaken q w store room r
-  notMade : (settings : Settings) (t : Told) (store₁ : List ℕ) → asksOf settings ≡ settingsOf q → CreatedIn storeBytes settings store t store₁
-      → (t .number ≡ 0 → ⊥) → r ≡ false → CaseTaken q w store room r
-  made : (settings : Settings) (t : Told) (store₁ : List ℕ) → asksOf settings ≡ settingsOf q → CreatedIn storeBytes settings store t store₁
-      → t .number ≡ 0 → CaseRun (drop settingsBytes q) w store₁ room r → CaseTaken q w store room r
-
 -- ---- the tally
 
 abbrev pub wentAs : Bool → Case
@@ -125,9 +118,9 @@ pub record StepWent (s : Step) (input output store : List ℕ) (room : ℕ) (r :
   pub is : r ≡ wentAs well
 
 -- the case that is the first n bytes of input and the first m of output
-pub record CaseWent (n m : ℕ) (input output store : List ℕ) (room : ℕ) (r : Case) : Type 0 where
+pub record CaseWent (n m : ℕ) (input output : List ℕ) (room : ℕ) (r : Case) : Type 0 where
   pub well : Bool
-  pub taken : CaseTaken (take n input) (take m output) store room well
+  pub taken : Decides (Accepted (take n input) room (take m output)) well
   pub is : r ≡ wentAs well
 
 -- a count stops at the largest number

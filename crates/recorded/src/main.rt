@@ -10,8 +10,9 @@ ghost use Rattle.s3_fifo.specs.Calls.{gave, turned, createdSays, ranSays};
 ghost use Rattle.rules.specs.Refusals.{numberOf, detailOf, storeBytes};
 ghost use Rattle.recorded.specs.Told.{toldOf};
 ghost use Rattle.recorded.specs.Compared.{AllAre, SameFrom, WroteOnly, keptFrom, AnsweredAs, CreatedAsWritten, RanAsWritten, CaseAsWritten};
+ghost use Rattle.recorded.specs.Fresh.{Accepted};
 ghost use Rattle.recorded.specs.Steps.{ReadPart, CreatedIn, RanIn, Laid, stepOf, wentAs, moreOf, countedAs};
-ghost use Rattle.recorded.specs.Steps.{Prepared, CreateStepped, CallStepped, RunStepped, Stepped, StepWent, CaseRun, CaseTaken, CaseWent};
+ghost use Rattle.recorded.specs.Steps.{Prepared, CreateStepped, CallStepped, RunStepped, Stepped, StepWent, CaseRun, CaseWent};
 use libc::STDOUT_FILENO;
 use rules::Turned;
 use s3_fifo::Creation;
@@ -370,7 +371,7 @@ fn run_case(requests: &[u8], output: &[u8], store: &mut [u8], out: &mut [u8]) ->
 // One case: settings and requests on a fresh store.
 fn take_case(input: &[u8], output: &[u8], store: &mut [u8], out: &mut [u8]) -> bool
     requires { ⌜ storeBytes ≤ length (now store) ⌝ }
-    ensures { λ r. ⌜ CaseTaken (now (input .entry)) (now (output .entry)) (now (store .entry)) (length (now (out .entry))) r ⌝ }
+    ensures { λ r. ⌜ Decides (Accepted (now (input .entry)) (length (now (out .entry))) (now (output .entry))) r ⌝ }
 {
     if input.len() < sizing::SETTINGS_BYTES {
         return false;
@@ -436,7 +437,7 @@ fn case_with(
     out: &mut [u8],
 ) -> Case
     requires { ⌜ (n ≤ length (now input)) × (m ≤ length (now output)) × (storeBytes ≤ length (now store)) ⌝ }
-    ensures { λ r. ⌜ CaseWent n m (now (input .entry)) (now (output .entry)) (now (store .entry)) (length (now (out .entry))) r ⌝ }
+    ensures { λ r. ⌜ CaseWent n m (now (input .entry)) (now (output .entry)) (length (now (out .entry))) r ⌝ }
 {
     went(take_case(&input[0..n], &output[0..m], store, out))
 }

@@ -1,7 +1,7 @@
 -- `recorded::take_case` meets its contract.
 -- Assumes nothing.
 use borrow.Author.Needs.{needs}
-use Rattle.recorded.proofs.StepsLaws.{case-short, case-bad, case-refused, case-made}
+use Rattle.recorded.proofs.FreshLaws.{case-short, case-bad, case-refused, case-made}
 use Rattle.recorded.proofs.take_case.Statement.{statement}
 use Rattle.recorded.proofs.take_case.Tie as tie
 
@@ -15,7 +15,7 @@ take-case-spec =
     (λ c. search needs)
     (λ c κs. search needs)
     (λ c. search needs)
-    (λ c. search case-refused)
+    (λ c. search (needs, case-refused))
     (λ c. search needs)
     (λ c. search needs)
     (λ c. search needs)
@@ -23,4 +23,4 @@ take-case-spec =
     (λ c. search case-bad)
     (λ c. search needs)
     (λ c. search needs)
-    (λ c. search case-made))
+    (λ c. search (needs, case-made)))

@@ -127,6 +127,8 @@ tidy:
 	@python3 tests/tools/test_edits_judge.py
 	@tools/believe --check
 	@python3 tests/tools/test_believe.py
+	@python3 tests/docs/names.py
+	@python3 tests/tools/test_names.py
 
 gate-test:
 	@python3 tests/tools/test_gate.py

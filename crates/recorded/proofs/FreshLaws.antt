@@ -12,9 +12,8 @@ use Rattle.cells.specs.Decides.{Decides}
 use Rattle.cells.proofs.DecidesLaws.{refuse, decides-map}
 use Rattle.rules.specs.State.{State}
 use Rattle.rules.specs.declared.Turned.{Turned}
-use Rattle.rules.specs.declared.Turned.the-variants.{NoCapacity, CapacityAbove, SmallRatio, GhostRatio, GhostLimit}
-use Rattle.rules.specs.declared.Turned.the-variants.{ShortStore, DamagedStore, LongRequests, BadRecord, NoRoom}
-use Rattle.rules.specs.Refusals.{storeBytes, numberOf}
+use Rattle.rules.specs.Refusals.{storeBytes, numberOf, detailOf}
+use Rattle.rules.proofs.RefusalsLaws.{turnedBy, turned-back}
 use Rattle.rules.specs.Sizing.{Asked, noSettings, settingsBytes, settingsOf}
 use Rattle.rules.specs.Verdict.{Verdict, refused, done, create, Reads, reads, call}
 use Rattle.sizing.specs.declared.Settings.{Settings}
@@ -37,22 +36,17 @@ use Rattle.recorded.specs.Fresh.{onMade, onFresh, Accepted}
 
 -- ---- numbers
 
-some-number : (t : Turned) → 1 ≤ numberOf t
-some-number NoCapacity = omega arith
-some-number CapacityAbove = omega arith
-some-number SmallRatio = omega arith
-some-number GhostRatio = omega arith
-some-number GhostLimit = omega arith
-some-number ShortStore = omega arith
-some-number DamagedStore = omega arith
-some-number LongRequests = omega arith
-some-number (BadRecord at) = omega arith
-some-number (NoRoom room) = omega arith
+-- no refusal has the number 0: it would be the one that stands for it, which has another
+not-zero : (t : Turned) → numberOf t ≡ 0 → ⊥
+not-zero t e =
+    let f : numberOf (turnedBy 0 (detailOf t)) ≡ 0 =
+    ap (λ (n : ℕ). numberOf (turnedBy n (detailOf t))) (sym e) ∙ ap numberOf (turned-back t) ∙ e in
+    omega arith
 
 -- a creation told by 0 was made
 made-by : (a : Creation) → toldOf (createdSays a) .number ≡ 0 → createdSays a ≡ gave 0
 made-by Made e = refl
-made-by (NotMade t) e = absurd (omega (arith, some-number t))
+made-by (NotMade t) e = absurd (not-zero t e)
 
 turned-by : (a : Creation) → (toldOf (createdSays a) .number ≡ 0 → ⊥) → (n : ℕ) → createdSays a ≡ gave n → ⊥
 turned-by Made h n e = h refl
@@ -61,7 +55,7 @@ turned-by (NotMade t) h n e = let z : _≡_ {A = ℕ} 0 1 = cc in absurd (omega 
 -- and a call that was turned away is told by another number
 turned-ran : (a : Ran) (n d : ℕ) → ranSays a ≡ turned n d → toldOf (ranSays a) .number ≡ 0 → ⊥
 turned-ran (Done m) n d e z = let y : _≡_ {A = ℕ} 0 1 = cc in absurd (omega arith)
-turned-ran (Refused t) n d e z = omega (arith, some-number t)
+turned-ran (Refused t) n d e z = not-zero t z
 
 -- ---- verdicts
 

@@ -30,7 +30,9 @@ use Rattle.recorded.specs.Compared.{unwritten, CreatedAsWritten, CaseAsW
 use Rattle.recorded.specs.Steps.{Prepared, CallStepped, CreateStepped, lentTooMuch, badSettings, creates, RunStepped, storeTooLong, roomTooLong, runs}
 use Rattle.recorded.specs.Steps.{Stepped, fillStep, layStep, createStep, runStep, noStep, StepWent}
 use Rattle.recorded.specs.Fresh.{Accepted}
-use Rattle.recorded.specs.Steps.{CaseRun, CaseWent}
+use Rattle.recorded.specs.Steps.{CaseRun, CaseWent, OrBroken, broken, whole}
+use Rattle.recorded.specs.Steps.{NextStep, stepsEnd, stepCut, stepRead}
+use Rattle.recorded.specs.Steps.{NextCase, casesEnd, caseCut, caseRead, TurnTaken, stepTurn, caseTurn}
 use Rattle.recorded.specs.Steps.{ReadPart, stepOf, CreatedIn, RanIn, Laid, wentAs, moreOf, countedAs}
 
 -- ---- files
@@ -182,6 +184,36 @@ pub case-went : {n m : ℕ} {input output : List ℕ} {room : ℕ} {b : Bool} {r
 case-went {n} {m} {b = b} d e =
     record { well = b; taken = rw (sub-zero n, sub-zero m) at d; is = e }
 
+-- ---- the next of a file
+
+pub or-broken : (P : Type 0) → OrBroken P Broken
+or-broken P = broken refl
+
+pub or-whole : {P : Type 0} {r : Case} → P → OrBroken P r
+or-whole p = whole p
+
+module _ (input output store store′ : List ℕ) (room : ℕ) where
+  pub steps-end : NextStep input output store room End store′
+  steps-end = stepsEnd refl
+
+  pub step-cut : NextStep input output store room Broken store′
+  step-cut = stepCut refl
+
+  pub step-next : {s : Step} {r : Case} → OrBroken (StepWent s input output store room r store′) r → NextStep input output store room r store′
+  step-next (broken e) = stepCut e
+  step-next {s} (whole p) = stepRead s p
+
+module _ (input output : List ℕ) (room : ℕ) where
+  pub cases-end : NextCase input output room End
+  cases-end = casesEnd refl
+
+  pub case-cut : NextCase input output room Broken
+  case-cut = caseCut refl
+
+  pub case-next : {n m : ℕ} {r : Case} → OrBroken (CaseWent n m input output room r) r → NextCase input output room r
+  case-next (broken e) = caseCut e
+  case-next {n} {m} (whole p) = caseRead n m p
+
 -- ---- the tally
 
 pub more-below : (n : ℕ) → n < 18446744073709551615 → n + 1 ≡ moreOf n
@@ -208,3 +240,10 @@ module _ (t : Tally) {c : Case} (r : Tally) (a : r .taken ≡ t .taken) (b : r .
 
   pub counted-broken : c ≡ Broken → r .whole ≡ false → r ≡ countedAs t c
   counted-broken e w = rw e (tally-is r (countedAs t Broken) a b g w)
+
+module _ {steps : Bool} {t r : Tally} {input output store store′ : List ℕ} {room : ℕ} {c : Case} where
+  pub turn-step : steps ≡ true → NextStep input output store room c store′ → r ≡ countedAs t c → TurnTaken steps t input output store room r store′
+  turn-step e n f = stepTurn e c n f
+
+  pub turn-case : steps ≡ false → NextCase input output room c → r ≡ countedAs t c → TurnTaken steps t input output store room r store′
+  turn-case e n f = caseTurn e c n f

@@ -123,6 +123,23 @@ pub record CaseWent (n m : ℕ) (input output : List ℕ) (room : ℕ) (r : Case
   pub taken : Decides (Accepted (take n input) room (take m output)) well
   pub is : r ≡ wentAs well
 
+-- P, which is what r says, unless r says that the file is broken
+pub data OrBroken (P : Type 0) (r : Case) : Type 0 where
+  broken : r ≡ Broken → OrBroken P r
+  whole : P → OrBroken P r
+
+-- the next step of a file, with what was read for input and output: which bytes they are, nothing says
+pub data NextStep (input output store : List ℕ) (room : ℕ) (r : Case) (store′ : List ℕ) : Type 0 where
+  stepsEnd : r ≡ End → NextStep input output store room r store′
+  stepCut : r ≡ Broken → NextStep input output store room r store′
+  stepRead : (s : Step) → StepWent s input output store room r store′ → NextStep input output store room r store′
+
+-- and the next case
+pub data NextCase (input output : List ℕ) (room : ℕ) (r : Case) : Type 0 where
+  casesEnd : r ≡ End → NextCase input output room r
+  caseCut : r ≡ Broken → NextCase input output room r
+  caseRead : (n m : ℕ) → CaseWent n m input output room r → NextCase input output room r
+
 -- a count stops at the largest number
 abbrev pub moreOf : ℕ → ℕ
 moreOf n = cond (ltb n 18446744073709551615) (n + 1) n
@@ -132,3 +149,8 @@ countedAs t Same = record { taken = moreOf (t .taken); differ = t .differ; going
 countedAs t Differs = record { taken = moreOf (t .taken); differ = moreOf (t .differ); going = true; whole = true }
 countedAs t End = record { taken = t .taken; differ = t .differ; going = false; whole = true }
 countedAs t Broken = record { taken = t .taken; differ = t .differ; going = false; whole = false }
+
+-- one more step or case, and the tally after it
+pub data TurnTaken (steps : Bool) (t : Tally) (input output store : List ℕ) (room : ℕ) (r : Tally) (store′ : List ℕ) : Type 0 where
+  stepTurn : steps ≡ true → (c : Case) → NextStep input output store room c store′ → r ≡ countedAs t c → TurnTaken steps t input output store room r store′
+  caseTurn : steps ≡ false → (c : Case) → NextCase input output room c → r ≡ countedAs t c → TurnTaken steps t input output store room r store′

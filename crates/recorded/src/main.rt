@@ -12,6 +12,7 @@ ghost use Rattle.recorded.specs.Told.{toldOf};
 ghost use Rattle.recorded.specs.Compared.{AllAre, SameFrom, WroteOnly, keptFrom, AnsweredAs, CreatedAsWritten, RanAsWritten, CaseAsWritten};
 ghost use Rattle.recorded.specs.Fresh.{Accepted};
 ghost use Rattle.recorded.specs.Steps.{ReadPart, CreatedIn, RanIn, Laid, stepOf, wentAs, moreOf, countedAs};
+ghost use Rattle.recorded.specs.Steps.{OrBroken, NextStep, NextCase, TurnTaken};
 ghost use Rattle.recorded.specs.Steps.{Prepared, CreateStepped, CallStepped, RunStepped, Stepped, StepWent, CaseRun, CaseWent};
 use libc::STDOUT_FILENO;
 use rules::Turned;
@@ -453,6 +454,7 @@ fn read_step(
     out: &mut [u8],
 ) -> Case
     requires { ⌜ length (now store) ≡ length (now before) ⌝ }
+    ensures { λ r. ⌜ OrBroken (StepWent s (now (input .exit)) (now (output .exit)) (now (store .entry)) (length (now (out .entry))) r (now (store .exit))) r ⌝ }
 {
     if !read_both(fd, input, s.input, output, s.output) {
         return Case::Broken;
@@ -470,6 +472,7 @@ fn one_step(
     out: &mut [u8],
 ) -> Case
     requires { ⌜ length (now store) ≡ length (now before) ⌝ }
+    ensures { λ r. ⌜ NextStep (now (input .exit)) (now (output .exit)) (now (store .entry)) (length (now (out .entry))) r (now (store .exit)) ⌝ }
 {
     let mut head = [0u8; 32];
     let got = io::read_full(fd, &mut head);
@@ -493,6 +496,7 @@ fn read_case(
     out: &mut [u8],
 ) -> Case
     requires { ⌜ storeBytes ≤ length (now store) ⌝ }
+    ensures { λ r. ⌜ OrBroken (CaseWent n m (now (input .exit)) (now (output .exit)) (length (now (out .entry))) r) r ⌝ }
 {
     if !read_both(fd, input, n, output, m) {
         return Case::Broken;
@@ -503,6 +507,7 @@ fn read_case(
 // The next case of a file.
 fn one_case(fd: i32, input: &mut [u8], output: &mut [u8], store: &mut [u8], out: &mut [u8]) -> Case
     requires { ⌜ storeBytes ≤ length (now store) ⌝ }
+    ensures { λ r. ⌜ NextCase (now (input .exit)) (now (output .exit)) (length (now (out .entry))) r ⌝ }
 {
     let mut head = [0u8; 8];
     let got = io::read_full(fd, &mut head);
@@ -578,6 +583,7 @@ fn turn(
     out: &mut [u8],
 ) -> Tally
     requires { ⌜ (storeBytes ≤ length (now store)) × (length (now store) ≡ length (now before)) ⌝ }
+    ensures { λ r. ⌜ TurnTaken steps t (now (input .exit)) (now (output .exit)) (now (store .entry)) (length (now (out .entry))) r (now (store .exit)) ⌝ }
 {
     if steps {
         let c = one_step(fd, input, output, store, before, out);

@@ -1,7 +1,7 @@
 -- `recorded::read_case` meets its contract.
 -- Assumes nothing.
 use borrow.Author.Needs.{needs}
-use Rattle.recorded.proofs.StepsLaws.{read-room}
+use Rattle.recorded.proofs.StepsLaws.{read-room, or-broken, or-whole}
 use Rattle.recorded.proofs.read_case.Statement.{statement}
 use Rattle.recorded.proofs.read_case.Tie as tie
 
@@ -12,7 +12,7 @@ read-case-spec =
     (λ c κs. search needs)
     (λ c. search needs)
     (λ c. search needs)
-    (λ c. search needs)
+    (λ c. search or-broken)
     (λ c κs. let left = c .before .before .before .before in
     let both = left .before .before .before .before .before .read-both .ensures in
     (read-room (both .0) (left .if1 .left), read-room (both .1) (left .if1 .left), search needs))
@@ -20,4 +20,4 @@ read-case-spec =
     (λ c. search needs)
     (λ c. search needs)
     (λ c. search needs)
-    (λ c. search needs))
+    (λ c. search or-whole))

@@ -15,7 +15,7 @@ use Rattle.rules.specs.declared.Turned.{Turned}
 use Rattle.rules.specs.Refusals.{storeBytes, numberOf, detailOf}
 use Rattle.rules.proofs.RefusalsLaws.{turnedBy, turned-back}
 use Rattle.rules.specs.Sizing.{Asked, noSettings, settingsBytes, settingsOf}
-use Rattle.rules.specs.Verdict.{Verdict, refused, done, create, Reads, reads, call}
+use Rattle.rules.specs.Verdict.{Verdict, refused, done, create, Reads, reads, call, onCreated, onAsked}
 use Rattle.sizing.specs.declared.Settings.{Settings}
 use Rattle.sizing.specs.declared.Read.{Read}
 use Rattle.sizing.specs.declared.Read.the-variants.{Asked as Asked·, Bad}
@@ -32,7 +32,7 @@ use Rattle.recorded.specs.declared.Told.{Told}
 use Rattle.recorded.specs.Told.{toldOf}
 use Rattle.recorded.specs.Compared.{unwritten, WroteOnly, CaseAsWritten}
 use Rattle.recorded.specs.Steps.{CreatedIn, RanIn, CaseRun}
-use Rattle.recorded.specs.Fresh.{onMade, onFresh, Accepted}
+use Rattle.recorded.specs.Fresh.{Accepted}
 
 -- ---- numbers
 
@@ -76,7 +76,7 @@ not-accepted v w h e = rw e (refuse (λ a. h .never (a .state) w (a .is)))
 
 -- a creation that is not told by 0 makes nothing
 unmade : (v : Verdict State) (a : Creation) (s s′ : List ℕ) → Follows v (createdSays a) s s′ [] [] → (toldOf (createdSays a) .number ≡ 0 → ⊥)
-    → (q : List ℕ) (room : ℕ) → NotDone (onMade v q room)
+    → (q : List ℕ) (room : ℕ) → NotDone (onCreated v q room)
 unmade (refused n d) a s s′ f h q room = refused-not n d
 unmade (done σ bs) a s s′ f h q room = absurd (turned-by a h (length bs) (f .0))
 
@@ -160,10 +160,10 @@ run-decides σ s q w s′ out room t h k d c =
 -- ---- the settings in front, and the creation that they ask for
 
 module _ (q w : List ℕ) (room : ℕ) where
-  asked-as : {x : Asked} {r : Bool} → x ≡ settingsOf q → Decides (Accepts (onFresh x (drop settingsBytes q) room) w) r → Decides (Accepted q room w) r
+  asked-as : {x : Asked} {r : Bool} → x ≡ settingsOf q → Decides (Accepts (onAsked x (drop settingsBytes q) room) w) r → Decides (Accepted q room w) r
   asked-as {x} {r} e d =
       decides-map (λ a. record { state = a .state; is = a .is }) (λ a. record { state = a .state; is = a .is })
-      (subst (λ (y : Asked). Decides (Accepts (onFresh y (drop settingsBytes q) room) w) r) e d)
+      (subst (λ (y : Asked). Decides (Accepts (onAsked y (drop settingsBytes q) room) w) r) e d)
 
   none-asked : settingsOf q ≡ noSettings → Decides (Accepted q room w) false
   none-asked e = asked-as (sym e) (not-accepted (refused 9 0) w (refused-not 9 0) refl)
@@ -188,12 +188,12 @@ module _ (store : List ℕ) (settings : Settings) (t : Told) (s : List ℕ) (lon
   number-as : t .number ≡ toldOf (createdSays (c .created)) .number
   number-as = ap (λ (x : Told). x .number) (c .told)
 
-  not-made : (q w : List ℕ) (room : ℕ) → (t .number ≡ 0 → ⊥) → Decides (Accepts (onMade verdict q room) w) false
+  not-made : (q w : List ℕ) (room : ℕ) → (t .number ≡ 0 → ⊥) → Decides (Accepts (onCreated verdict q room) w) false
   not-made q w room n =
-      not-accepted (onMade verdict q room) w
+      not-accepted (onCreated verdict q room) w
       (unmade verdict (c .created) (take storeBytes store) (c .part) left (λ z. n (number-as ∙ z)) q room) refl
 
-  was-made : (q w : List ℕ) (room : ℕ) {r : Bool} → t .number ≡ 0 → CaseRun q w s room r → Decides (Accepts (onMade verdict q room) w) r
+  was-made : (q w : List ℕ) (room : ℕ) {r : Bool} → t .number ≡ 0 → CaseRun q w s room r → Decides (Accepts (onCreated verdict q room) w) r
   was-made q w room n d =
       let u = made-of verdict (c .created) (take storeBytes store) (c .part) left (sym number-as ∙ n) in
       let l : length (c .part) ≡ storeBytes = u .settled .same-length ∙ lent in

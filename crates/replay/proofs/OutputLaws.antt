@@ -14,7 +14,7 @@ use Rattle.rules.specs.State.{State}
 use Rattle.rules.specs.Bytes.{mark, marks, bytesOf}
 use Rattle.rules.specs.Sizing.{Asked, asks, noSettings, settingsBytes, settingsAt, settingsOf}
 use Rattle.rules.specs.Refusals.{storeBytes}
-use Rattle.rules.specs.Verdict.{Verdict, refused, done, create, Reads, reads, call}
+use Rattle.rules.specs.Verdict.{Verdict, refused, done, create, Reads, reads, call, onCreated, onAsked}
 use Rattle.rules.proofs.TripLaws.{bytes-length}
 use Rattle.sizing.specs.declared.Settings.{Settings}
 use Rattle.rules.specs.declared.Turned.{Turned}
@@ -30,7 +30,7 @@ use Rattle.s3_fifo.specs.declared.Ran.{Ran}
 use Rattle.s3_fifo.specs.declared.Ran.the-variants.{Done, Refused as NotRun}
 use Rattle.s3_fifo.specs.Calls.{Said, gave, turned, createdSays, ranSays, Settled, Follows, Created, Called}
 use Rattle.s3_fifo.proofs.OnceLaws.{reads-once}
-use Rattle.replay.specs.Output.{noRecord, noBytes, printed, onCreated, onAsked, outputFor, Finished}
+use Rattle.replay.specs.Output.{noRecord, noBytes, printed, outputFor, Finished}
 
 -- ---- the record of a refusal
 

@@ -21,13 +21,13 @@ use Rattle.rules.specs.Sizing.{Asked, asks, noSettings, settingsBytes, settings
 use Rattle.rules.specs.Sizing.{Sized, limits, refused as misfit, sizing}
 use Rattle.rules.specs.Refusals.{storeBytes, mostRequestBytes}
 use Rattle.rules.specs.declared.Turned.the-variants.{LongRequests}
-use Rattle.rules.specs.Verdict.{Verdict, refused, done, turnedAway, onSized, create, reads, call, FitsRoom}
+use Rattle.rules.specs.Verdict.{Verdict, refused, done, turnedAway, onSized, create, reads, call, FitsRoom, onCreated, onAsked}
 use Rattle.rules.proofs.SoundLaws.{empty-sound}
 use Rattle.rules.proofs.VerdictLaws.{call-fits}
 use Rattle.sizing.proofs.AcceptedLaws.{accepted-fine}
 use Rattle.wire.specs.Wire.{Wrote}
 use Rattle.wire.proofs.SpliceLaws.{wrote-length}
-use Rattle.replay.specs.Output.{noRecord, noBytes, printed, onCreated, onAsked, outputFor, mostInput, replyRoom, writtenFor}
+use Rattle.replay.specs.Output.{noRecord, noBytes, printed, outputFor, mostInput, replyRoom, writtenFor}
 
 -- ---- the cut does not matter
 

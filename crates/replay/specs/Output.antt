@@ -5,10 +5,10 @@ use mathlib.Core.List.{List, _++_}
 use Prim.Native.Nat.{ℕ, _+_}
 use lib.ListN.{take, drop}
 use Rattle.rules.specs.Bytes.{mark, bytesOf}
-use Rattle.rules.specs.Sizing.{Asked, asks, noSettings, settingsBytes, settingsOf}
+use Rattle.rules.specs.Sizing.{settingsBytes, settingsOf}
 use Rattle.rules.specs.State.{State}
-use Rattle.rules.specs.Refusals.{storeBytes, mostRequestBytes}
-use Rattle.rules.specs.Verdict.{Verdict, refused, done, create, reads, call}
+use Rattle.rules.specs.Refusals.{mostRequestBytes}
+use Rattle.rules.specs.Verdict.{Verdict, refused, done, create, call, onAsked}
 use Rattle.wire.specs.Wire.{Wrote}
 use Rattle.s3_fifo.specs.Calls.{Said, gave, turned}
 
@@ -23,16 +23,6 @@ noBytes = 11
 abbrev pub printed : Verdict State → List ℕ
 printed (refused n d) = noRecord n d
 printed (done σ bs) = bs
-
--- what follows the settings is one call on the cache that they made, with so much room for the replies
-abbrev pub onCreated : Verdict State → List ℕ → ℕ → Verdict State
-onCreated (refused n d) q room = refused n d
-onCreated (done σ bs) q room = call (reads σ) q room
-
--- wrong or short settings are refused first; the program's own store is long enough
-abbrev pub onAsked : Asked → List ℕ → ℕ → Verdict State
-onAsked noSettings q room = refused 9 0
-onAsked (asks capacity small ghost) q room = onCreated (create capacity small ghost storeBytes) q room
 
 -- the output for an input
 unfoldable pub outputFor : List ℕ → ℕ → List ℕ

@@ -10,9 +10,9 @@ use Rattle.rules.specs.declared.Turned.the-variants.{ShortStore, Damaged
 use Rattle.rules.specs.State.{State, emptyAt, Sound}
 use Rattle.rules.specs.Records.{Outcome}
 use Rattle.rules.specs.Requests.{run}
-use Rattle.rules.specs.Sizing.{Sized, limits, refused as misfit, sizing, sizingUpTo}
+use Rattle.rules.specs.Sizing.{Sized, limits, refused as misfit, sizing, sizingUpTo, Asked, asks, noSettings}
 use Rattle.rules.specs.Bytes.{parse, roomFor, encodeAll}
-use Rattle.rules.specs.Refusals.{numberOf, detailOf, RefusalRow, createRows, runRows}
+use Rattle.rules.specs.Refusals.{storeBytes, numberOf, detailOf, RefusalRow, createRows, runRows}
 
 -- turned away by a number, with a detail; or done: the state, of any type, and the reply bytes
 pub data Verdict (S : Type 0) : Type 0 where
@@ -54,7 +54,20 @@ call short bs room = turnedAway ShortStore
 call damaged bs room = turnedAway DamagedStore
 call (reads σ) bs room = unless (runRows (length bs) (parse bs) room) (finished (run σ (parse bs .requests)))
 
--- what an accepted verdict keeps to: its state is sound, and its reply bytes have room
+-- ---- settings, and requests behind them: one call on the cache that they make, with so much room for the replies
+
+abbrev pub onCreated : Verdict State → List ℕ → ℕ → Verdict State
+onCreated (refused n d) q room = refused n d
+onCreated (done σ bs) q room = call (reads σ) q room
+
+-- wrong or short settings are refused first; the store is long enough
+abbrev pub onAsked : Asked → List ℕ → ℕ → Verdict State
+onAsked noSettings q room = refused 9 0
+onAsked (asks capacity small ghost) q room = onCreated (create capacity small ghost storeBytes) q room
+
+-- ---- what an accepted verdict keeps to
+
+-- its state is sound, and its reply bytes have room
 abbrev pub FitsRoom : ℕ → Verdict State → Type 0
 FitsRoom room (refused n d) = Unit {0}
 FitsRoom room (done σ bs) = Sound σ × (length bs ≤ room)

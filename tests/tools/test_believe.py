@@ -57,7 +57,9 @@ class Believe(unittest.TestCase):
         self.write("crates.txt", "low:\ntop: low\nmore:\n")
         self.write("README.md", README)
         self.write("crates/top/specs/Promises.antt", TOP)
+        self.write("crates/top/specs/Lib.antt", "pub mod Promises\n")
         self.write("crates/low/specs/Parts.antt", PARTS)
+        self.write("crates/low/specs/Lib.antt", "pub mod Parts\n")
         self.write("crates/more/specs/Elsewhere.antt", PARTS)
 
     def write(self, path, text):
@@ -82,7 +84,7 @@ class Believe(unittest.TestCase):
             self.assertNotIn(other, text)
 
     def test_good(self):
-        self.assertEqual(self.run_tool("--check"), (0, "believe: 7 lines in 2 files, and README.md names each\n"))
+        self.assertEqual(self.run_tool("--check"), (0, "believe: 9 lines in 2 files, and README.md names each\n"))
 
     def test_a_file_left_out(self):
         self.write("README.md", README.replace("; crates/low/specs: Parts", ""))
@@ -95,8 +97,8 @@ class Believe(unittest.TestCase):
         self.assertEqual((status, text), (1, "README.md names crates/more/specs/Elsewhere.antt, and no promise rests on it\n"))
 
     def test_too_long(self):
-        status, text = self.run_tool("--check", most=7)
-        self.assertEqual((status, text), (1, "7 lines have to be believed, which is not under 7\n"))
+        status, text = self.run_tool("--check", most=9)
+        self.assertEqual((status, text), (1, "9 lines have to be believed, which is not under 9\n"))
 
     def test_a_name_that_is_gone(self):
         self.write("crates/low/specs/Parts.antt", PARTS.replace("half", "third"))

@@ -116,6 +116,7 @@ created-once c d =
       replies = refl;
       refused-same = refused-bytes (createdSays (c .answer)) (c .code-is) (o .stores);
       said = createdSays (c .answer);
+      said-is = c .code-is;
       stores = o .stores;
     }
 
@@ -128,6 +129,7 @@ called-once c d =
       replies = o .replies;
       refused-same = refused-bytes (ranSays (c .answer)) (c .code-is) (o .stores);
       said = ranSays (c .answer);
+      said-is = c .code-is;
       stores = o .stores;
     }
 

@@ -13,17 +13,19 @@ use Rattle.s3_fifo.specs.Calls.{Said, createdSays, ranSays, Created}
 use Rattle.s3_fifo.specs.Once.{Agrees}
 use Rattle.mapcache.specs.Codes.{codeOf, detailIn, CreatedAs, CalledAs}
 
+-- below 0: a refusal
 abbrev pub Negative : ℤ → Type 0
 Negative (pos n) = ⊥
 Negative (negsuc n) = Unit {0}
 
--- two outcomes of one call: codes, details, stores and replies; below 0 the stores are the same bytes
+-- two outcomes of one call: codes, details, stores and replies
 pub record OneOutcome (m n : ℤ) (d e : ℕ) (s₁ s₂ p₁ p₂ : List ℕ) : Type 0 where
   pub code : m ≡ n
   pub detail : d ≡ e
   pub replies : p₁ ≡ p₂
   pub refused-same : Negative m → s₁ ≡ s₂
   pub said : Said
+  pub said-is : m ≡ codeOf said
   pub stores : Agrees said s₁ s₂
 
 pub record Exported : Type 0 where

@@ -9,15 +9,15 @@ use native.Mathlib.Decide.{ℕ-discrete}
 use lib.ListN.{length, length-append}
 use Rattle.cells.specs.Members.{Every, Out, Among}
 
-pub every-map : {P Q : ℕ → Type 0} (l : List ℕ) → ((y : ℕ) → P y → Q y) → Every P l → Every Q l
+pub every-map : {A : Type 0} {P Q : A → Type 0} (l : List A) → ((y : A) → P y → Q y) → Every P l → Every Q l
 every-map [] f h = tt
 every-map (x ∷ l) f h = (f x (h .0), every-map l f (h .1))
 
-pub every-append : (P : ℕ → Type 0) (a b : List ℕ) → Every P a → Every P b → Every P (a ++ b)
+pub every-append : {A : Type 0} (P : A → Type 0) (a b : List A) → Every P a → Every P b → Every P (a ++ b)
 every-append P [] b h k = k
 every-append P (x ∷ a) b h k = (h .0, every-append P a b (h .1) k)
 
-pub every-left : (P : ℕ → Type 0) (a b : List ℕ) → Every P (a ++ b) → Every P a
+pub every-left : {A : Type 0} (P : A → Type 0) (a b : List A) → Every P (a ++ b) → Every P a
 every-left P [] b h = tt
 every-left P (x ∷ a) b h = (h .0, every-left P a b (h .1))
 

@@ -1,4 +1,4 @@
--- The members of a list of numbers: what holds of each, and where one stands.
+-- The members of a list: what holds of each, and where a number stands.
 -- Assumes nothing.
 use mathlib.Core.Path.{_≡_}
 use mathlib.Core.Logic.{_≢_}
@@ -6,7 +6,7 @@ use mathlib.Core.List.{List, [], _∷_, _++_}
 use Prim.Native.Nat.{ℕ}
 
 -- P of every member
-abbrev pub Every : (ℕ → Type 0) → List ℕ → Type 0
+abbrev pub Every : {A : Type 0} → (A → Type 0) → List A → Type 0
 Every P [] = Unit {0}
 Every P (x ∷ l) = P x × Every P l
 

@@ -1,18 +1,20 @@
 -- The reply bytes alone say which reply belongs to which request: no reply's bytes are the beginning of another's, and each request's replies end with the
 -- first one that tells of no pair pushed out.
 -- Assumes nothing.
-use Prim.Native.Nat.{ℕ, _+_, _*_, _≤_, _<_}
+use Prim.Native.Nat.{ℕ, _*_, _≤_, _<_}
 use native.Mathlib.Omega.{arith}
 use mathlib.Core.Path.{_≡_, refl, sym, ap, ap₂, _∙_}
 use mathlib.Core.Logic.{inl, inr}
-use mathlib.Core.Bool.{Bool, true, false, cond}
+use mathlib.Core.Bool.{true, false, cond}
 use mathlib.Core.List.{List, [], _∷_, _++_, append-assoc, map}
 use lib.Dec.{eqb, leb}
 use lib.ListN.{length, drop}
 use lib.Seq.{drop-append-seam}
 use borrow.Author.Tests.{leb-false}
 use Rattle.cells.specs.Cells.{le}
-use Rattle.rules.specs.Parts.{bit, popTail}
+use Rattle.cells.specs.Members.{Every}
+use Rattle.cells.proofs.MembersLaws.{every-append}
+use Rattle.rules.specs.Parts.{popTail}
 use Rattle.rules.specs.State.{Entry, State, Queue, Small, Main, maxFreq, most, words, queueOf, cool, setGhosts, overAll, wide, warmth}
 use Rattle.rules.specs.State.{Place, nowhere, here, place, Sound}
 use Rattle.rules.specs.Records.{Request, GT, PK, RM, IN, EV, CL, Reply, MI, OK, HI, RE, NW, GO, EX, ES, EM, AllNarrow}
@@ -21,10 +23,10 @@ use Rattle.rules.specs.Eviction.{tell, Evicted, evictIfFull}
 use Rattle.rules.specs.Requests.{run, apply, onGet, onPeek, onRemove, onInsert, onNew, onEvictOne, firstQueue}
 use Rattle.rules.specs.Bytes.{bytesOf, encode, encodeAll}
 use Rattle.rules.specs.Ledger.{Answered, history, repliesOf}
-use Rattle.rules.specs.Replies.{ofPushed, OneAnswer, closing, pushed, NarrowReply, AllNarrowReplies, AllFormed, ReadAs}
-use Rattle.rules.proofs.PartsLaws.{pop-law}
+use Rattle.rules.specs.Replies.{ofPushed, OneAnswer, closing, pushed, NarrowReply, Formed, ReadAs}
+use Rattle.rules.proofs.PartsLaws.{bit-no, pop-law}
 use Rattle.rules.proofs.StateLaws.{pop-total, put-total, back-total, Places, place-law}
-use Rattle.rules.proofs.SoundLaws.{walk-total, Roomy, roomy-law, Ends, first-ends, apply-sound, warmth-most}
+use Rattle.rules.proofs.SoundLaws.{broad, walk-total, Roomy, roomy-law, Ends, first-ends, apply-sound, warmth-most}
 use Rattle.rules.proofs.LedgerLaws.{history-replies}
 use Rattle.rules.proofs.TripLaws.{bytes-length, le-after}
 use Rattle.rules.proofs.RoomLaws.{size, encode-length}
@@ -97,7 +99,7 @@ some-bytes r l e = omega (arith, ap length e, encode-length (r ∷ l), size-some
     size-some (EM k v) = omega arith
 
 -- so bytes are the bytes of one list of replies
-pub encode-once : (a b : List Reply) → AllNarrowReplies a → AllNarrowReplies b → encodeAll a ≡ encodeAll b → a ≡ b
+pub encode-once : (a b : List Reply) → Every NarrowReply a → Every NarrowReply b → encodeAll a ≡ encodeAll b → a ≡ b
 unfolding encodeAll
 encode-once [] [] h g e = refl
 encode-once [] (s ∷ b) h g e = absurd (some-bytes s b (sym e))
@@ -116,28 +118,24 @@ answer-first x y (pushed {p = p} g k) (closing {r = r} f) e =
     let w : p ≡ r = cc in let n : true ≡ false = sym g ∙ ap ofPushed w ∙ f in let z : _≡_ {A = ℕ} 0 1 = cc in absurd (omega arith)
 answer-first x y (pushed f g) (pushed h k) e = (cc, cc)
 
-narrow-append : (a b : List Reply) → AllNarrowReplies a → AllNarrowReplies b → AllNarrowReplies (a ++ b)
-narrow-append [] b h g = g
-narrow-append (r ∷ a) b h g = (h .0, narrow-append a b (h .1) g)
-
-narrow-joined : (h : List Answered) → AllFormed h → AllNarrowReplies (repliesOf h)
+narrow-joined : (h : List Answered) → Every Formed h → Every NarrowReply (repliesOf h)
 narrow-joined [] f = tt
-narrow-joined (a ∷ h) f = narrow-append (a .replies) (repliesOf h) (f .1) (narrow-joined h (f .2))
+narrow-joined (a ∷ h) f = every-append NarrowReply (a .replies) (repliesOf h) (f .0 .1) (narrow-joined h (f .1))
 
 abbrev asking : Answered → Request
 asking a = a .request
 
-answers-once : (g h : List Answered) → AllFormed g → AllFormed h → map asking g ≡ map asking h → repliesOf g ≡ repliesOf h → g ≡ h
+answers-once : (g h : List Answered) → Every Formed g → Every Formed h → map asking g ≡ map asking h → repliesOf g ≡ repliesOf h → g ≡ h
 answers-once [] [] f k e d = refl
 answers-once [] (b ∷ h) f k e d = let z : _≡_ {A = ℕ} 0 1 = cc in absurd (omega arith)
 answers-once (a ∷ g) [] f k e d = let z : _≡_ {A = ℕ} 0 1 = cc in absurd (omega arith)
 answers-once (a ∷ g) (b ∷ h) f k e d =
-    let w = answer-first (repliesOf g) (repliesOf h) (f .0) (k .0) d in
+    let w = answer-first (repliesOf g) (repliesOf h) (f .0 .0) (k .0 .0) d in
     let same : a .request ≡ b .request = cc in
     let more : map asking g ≡ map asking h = cc in
     ap₂ (λ (x : Answered) (l : List Answered). x ∷ l)
     (ap₂ (λ (q : Request) (l : List Reply). record { request = q; replies = l }) same (w .0))
-    (answers-once g h (f .2) (k .2) more (w .1))
+    (answers-once g h (f .1) (k .1) more (w .1))
 
 -- requests and reply bytes leave one reading
 pub reading-once : {rs : List Request} {bs : List ℕ} {g h : List Answered} → ReadAs rs bs g → ReadAs rs bs h → g ≡ h
@@ -147,8 +145,9 @@ reading-once {rs} {bs} {g} {h} a b =
 
 -- ---- the history of a run is such a reading
 
-abbrev Formed : List Reply → Type 0
-Formed l = OneAnswer l × AllNarrowReplies l
+-- of replies alone
+abbrev Spoke : List Reply → Type 0
+Spoke l = OneAnswer l × Every NarrowReply l
 
 -- what eviction says, and how a request's replies end
 data Pushes : List Reply → Type 0 where
@@ -158,26 +157,19 @@ data Pushes : List Reply → Type 0 where
 data Closes : List Reply → Type 0 where
   closes : {r : Reply} → ofPushed r ≡ false → NarrowReply r → Closes (r ∷ [])
 
-formed : {a b : List Reply} → Pushes a → Closes b → Formed (a ++ b)
+formed : {a b : List Reply} → Pushes a → Closes b → Spoke (a ++ b)
 formed none (closes c n) = (closing c, (n, tt))
 formed (one p m) (closes c n) = (pushed p c, (m, (n, tt)))
 
-alone : {b : List Reply} → Closes b → Formed b
+alone : {b : List Reply} → Closes b → Spoke b
 alone c = formed none c
-
-abbrev broad : Entry → ℕ
-broad e = wide (e .key) + wide (e .value)
 
 -- no resident has a wide number
 abbrev Slim : State → Type 0
 Slim σ = overAll broad σ ≡ 0
 
 narrow-of : (n : ℕ) → wide n ≡ 0 → n < words
-narrow-of n h = leb-false words n (low (leb words n) h)
-  where
-    low : (t : Bool) → bit t ≡ 0 → t ≡ false
-    low true g = absurd (omega arith)
-    low false g = refl
+narrow-of n h = leb-false words n (bit-no (leb words n) h)
 
 entry-narrow : (e : Entry) → broad e ≡ 0 → (e .key < words) × (e .value < words)
 entry-narrow e h = (narrow-of (e .key) (omega arith), narrow-of (e .value) (omega arith))
@@ -206,29 +198,21 @@ roomy-pops {σ} {w} z (inr h) = omega (arith, h .1 .few)
 found-narrow : (q : Queue) (b : List Entry) (e : Entry) (a : List Entry) (σ : State) → queueOf q σ ≡ b ++ (e ∷ a) → Slim σ → e .value < words
 found-narrow q b e a σ h z = entry-narrow e (omega (arith, put-total broad q b e [] a σ h)) .1
 
-get-formed : (k : ℕ) (σ : State) (p : Place) → Places k σ p → Slim σ → Formed (onGet σ p .replies)
-unfolding onGet
-get-formed k σ nowhere h z = alone (closes refl tt)
-get-formed k σ (here q b e a) h z = alone (closes refl (found-narrow q b e a σ (h .0) z))
+place-formed : (k : ℕ) (σ : State) (p : Place) → Places k σ p → Slim σ
+    → Spoke (onGet σ p .replies) × Spoke (onPeek σ p .replies) × Spoke (onRemove σ p .replies)
+unfolding onGet onPeek onRemove
+place-formed k σ nowhere h z = (alone (closes refl tt), alone (closes refl tt), alone (closes refl tt))
+place-formed k σ (here q b e a) h z =
+    let n = found-narrow q b e a σ (h .0) z in (alone (closes refl n), alone (closes refl n), alone (closes refl n))
 
-peek-formed : (k : ℕ) (σ : State) (p : Place) → Places k σ p → Slim σ → Formed (onPeek σ p .replies)
-unfolding onPeek
-peek-formed k σ nowhere h z = alone (closes refl tt)
-peek-formed k σ (here q b e a) h z = alone (closes refl (found-narrow q b e a σ (h .0) z))
-
-remove-formed : (k : ℕ) (σ : State) (p : Place) → Places k σ p → Slim σ → Formed (onRemove σ p .replies)
-unfolding onRemove
-remove-formed k σ nowhere h z = alone (closes refl tt)
-remove-formed k σ (here q b e a) h z = alone (closes refl (found-narrow q b e a σ (h .0) z))
-
-new-formed : (k v : ℕ) (σ : State) (w : Removed) → Sound σ → Slim σ → Formed (onNew k v σ w .replies)
+new-formed : (k v : ℕ) (σ : State) (w : Removed) → Sound σ → Slim σ → Spoke (onNew k v σ w .replies)
 unfolding onNew
 new-formed k v σ w s z =
     let τ = setGhosts (w .ghosts) σ in
     let r = roomy-law τ (s .fine) in
     formed (roomy-pushes z r) (closes refl (roomy-pops (warmth-most σ s) r))
 
-insert-formed : (k v : ℕ) (σ : State) (p : Place) → Places k σ p → Sound σ → Slim σ → Formed (onInsert k v σ p .replies)
+insert-formed : (k v : ℕ) (σ : State) (p : Place) → Places k σ p → Sound σ → Slim σ → Spoke (onInsert k v σ p .replies)
 unfolding onInsert
 insert-formed k v σ nowhere h s z = new-formed k v σ (removeGhost k (σ .ghosts)) s z
 insert-formed k v σ (here q b e a) h s z = alone (closes refl (found-narrow q b e a σ (h .0) z))
@@ -241,27 +225,26 @@ closes-ends =
       sent = λ q r e σ h l z. l (omega (arith, back-total broad q r e σ h, blind q e));
     }
 
-evict-one-formed : (σ : State) (w : Evicted) → Roomy σ w → Slim σ → Formed (onEvictOne w .replies)
+evict-one-formed : (σ : State) (w : Evicted) → Roomy σ w → Slim σ → Spoke (onEvictOne w .replies)
 unfolding onEvictOne
 evict-one-formed σ w r z =
     let τ = w .state in
     let q = firstQueue τ in
     formed (roomy-pushes z r) (first-ends closes-ends q τ (popTail (queueOf q τ)) (pop-law (queueOf q τ)) (roomy-slim z r))
 
-pub apply-formed : (σ : State) (r : Request) → Sound σ → OneAnswer (apply σ r .replies) × AllNarrowReplies (apply σ r .replies)
+apply-formed : (σ : State) (r : Request) → Sound σ → Spoke (apply σ r .replies)
 unfolding apply
-apply-formed σ (GT k) s = get-formed k σ (place k σ) (place-law k σ) (omega (arith, s .narrow))
-apply-formed σ (PK k) s = peek-formed k σ (place k σ) (place-law k σ) (omega (arith, s .narrow))
-apply-formed σ (RM k) s = remove-formed k σ (place k σ) (place-law k σ) (omega (arith, s .narrow))
+apply-formed σ (GT k) s = place-formed k σ (place k σ) (place-law k σ) (omega (arith, s .narrow)) .0
+apply-formed σ (PK k) s = place-formed k σ (place k σ) (place-law k σ) (omega (arith, s .narrow)) .1
+apply-formed σ (RM k) s = place-formed k σ (place k σ) (place-law k σ) (omega (arith, s .narrow)) .2
 apply-formed σ (IN k v) s = insert-formed k v σ (place k σ) (place-law k σ) s (omega (arith, s .narrow))
 apply-formed σ EV s = evict-one-formed σ (evictIfFull σ) (roomy-law σ (s .fine)) (omega (arith, s .narrow))
 apply-formed σ CL s = alone (closes refl tt)
 
-history-formed : (σ : State) (rs : List Request) → Sound σ → AllNarrow rs → AllFormed (history σ rs)
+history-formed : (σ : State) (rs : List Request) → Sound σ → AllNarrow rs → Every Formed (history σ rs)
 unfolding history
 history-formed σ [] s z = tt
-history-formed σ (r ∷ rs) s z =
-    let f = apply-formed σ r s in (f .0, f .1, history-formed (apply σ r .state) rs (apply-sound σ r (z .0) s) (z .1))
+history-formed σ (r ∷ rs) s z = (apply-formed σ r s, history-formed (apply σ r .state) rs (apply-sound σ r (z .0) s) (z .1))
 
 history-asked : (σ : State) (rs : List Request) → map asking (history σ rs) ≡ rs
 unfolding history

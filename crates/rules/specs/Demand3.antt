@@ -3,6 +3,7 @@
 use Prim.Native.Nat.{ℕ, suc, _≤_}
 use mathlib.Core.Path.{_≡_}
 use mathlib.Core.List.{List, [], _∷_}
+use Rattle.cells.specs.Members.{Every}
 use Rattle.rules.specs.State.{Entry, State, Queue, fresh, setGhosts, pushTo, residents, warmth, keyed, places}
 use Rattle.rules.specs.Records.{Request, IN, NW, AllNarrow, Outcome}
 use Rattle.rules.specs.Ghosts.{removeGhost}
@@ -31,5 +32,4 @@ pub record Demand3 (σ₀ σ : State) (h : List Answered) : Type 0 where
 
 -- the numbers of all requests of some calls have 64 bits
 abbrev pub EachNarrow : List (List Request) → Type 0
-EachNarrow [] = Unit {0}
-EachNarrow (rs ∷ calls) = AllNarrow rs × EachNarrow calls
+EachNarrow calls = Every AllNarrow calls

@@ -2,6 +2,7 @@
 -- Assumes nothing.
 use Prim.Native.Nat.{ℕ, _<_}
 use mathlib.Core.List.{List, [], _∷_, _++_}
+use Rattle.cells.specs.Members.{Every}
 use Rattle.rules.specs.State.{State, words}
 
 pub data Request : Type 0 where
@@ -24,8 +25,7 @@ Narrow EV = Unit {0}
 Narrow CL = Unit {0}
 
 abbrev pub AllNarrow : List Request → Type 0
-AllNarrow [] = Unit {0}
-AllNarrow (r ∷ rs) = Narrow r × AllNarrow rs
+AllNarrow rs = Every Narrow rs
 
 -- looks and changes nothing
 abbrev pub Peeks : Request → Type 0
@@ -38,8 +38,7 @@ Peeks CL = ⊥
 
 -- none of them does more; there may be none
 abbrev pub AllPeeks : List Request → Type 0
-AllPeeks [] = Unit {0}
-AllPeeks (r ∷ rs) = Peeks r × AllPeeks rs
+AllPeeks rs = Every Peeks rs
 
 -- what a request, or a run of them, comes to
 pub record Outcome : Type 0 where

@@ -4,6 +4,7 @@ use mathlib.Core.Path.{_≡_}
 use mathlib.Core.Bool.{Bool, true, false}
 use mathlib.Core.List.{List, [], _∷_, map}
 use Prim.Native.Nat.{ℕ, _<_}
+use Rattle.cells.specs.Members.{Every}
 use Rattle.rules.specs.State.{words}
 use Rattle.rules.specs.Records.{Request, Reply, MI, OK, HI, RE, NW, GO, EX, ES, EM}
 use Rattle.rules.specs.Bytes.{encodeAll}
@@ -38,16 +39,12 @@ NarrowReply (EX k v) = (k < words) × (v < words)
 NarrowReply (ES k v) = (k < words) × (v < words)
 NarrowReply (EM k v) = (k < words) × (v < words)
 
-abbrev pub AllNarrowReplies : List Reply → Type 0
-AllNarrowReplies [] = Unit {0}
-AllNarrowReplies (r ∷ l) = NarrowReply r × AllNarrowReplies l
-
-abbrev pub AllFormed : List Answered → Type 0
-AllFormed [] = Unit {0}
-AllFormed (a ∷ h) = OneAnswer (a .replies) × AllNarrowReplies (a .replies) × AllFormed h
+-- answered as a request is
+abbrev pub Formed : Answered → Type 0
+Formed a = OneAnswer (a .replies) × Every NarrowReply (a .replies)
 
 -- h is a reading of the bytes bs as the answers to the requests rs; there is one at most (`reading-once`)
 pub record ReadAs (rs : List Request) (bs : List ℕ) (h : List Answered) : Type 0 where
   pub asked : map (λ a. a .request) h ≡ rs
-  pub formed : AllFormed h
+  pub formed : Every Formed h
   pub told : encodeAll (repliesOf h) ≡ bs

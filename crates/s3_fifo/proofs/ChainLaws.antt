@@ -10,10 +10,11 @@ use lib.ListN.{length, take, drop}
 use lib.Seq.{take-at}
 use borrow.Author.Tests.{ltb-false}
 use Rattle.cells.specs.Cells.{Bytes}
+use Rattle.cells.proofs.MembersLaws.{every-append, every-left}
 use Rattle.rules.specs.declared.Turned.{Turned}
 use Rattle.rules.specs.declared.Turned.the-variants.{ShortStore}
 use Rattle.rules.specs.State.{Limits, State, emptyAt, Fine}
-use Rattle.rules.specs.Records.{Request, IN, AllNarrow, AllPeeks, Outcome, tellFirst}
+use Rattle.rules.specs.Records.{Request, IN, Narrow, AllNarrow, AllPeeks, Outcome, tellFirst}
 use Rattle.rules.specs.Requests.{apply, run}
 use Rattle.rules.specs.Bytes.{encodeAll, parse}
 use Rattle.rules.specs.Sizing.{Sized, limits, refused as misfit, sizing}
@@ -117,10 +118,6 @@ called-intact {s} {q} {p} {s′} {p′} {n} c d = intact s q p s′ p′ n (c .s
 
 -- ---- the chain
 
-narrow-append : (a b : List Request) → AllNarrow a → AllNarrow b → AllNarrow (a ++ b)
-narrow-append [] b h g = g
-narrow-append (r ∷ a) b h g = (h .0, narrow-append a b (h .1) g)
-
 grow : {s q p s′ p′ : List ℕ} {n : ℕ} {σ₀ : State} {rs : List Request} {bs : List ℕ} → Grown s σ₀ rs bs → Bytes q → Called s q p (Done n) s′ p′
     → Grown s′ σ₀ (rs ++ parse q .requests) (bs ++ take n p′)
 grow {s} {q} {p} {s′} {p′} {n} {σ₀} {rs} {bs} g b c =
@@ -129,7 +126,7 @@ grow {s} {q} {p} {s′} {p′} {n} {σ₀} {rs} {bs} g b c =
     run-append σ₀ rs (parse q .requests) in
     record {
       sound = g .sound;
-      narrow = narrow-append rs (parse q .requests) (g .narrow) (parse-sized q b);
+      narrow = every-append Narrow rs (parse q .requests) (g .narrow) (parse-sized q b);
       holds = subst (Holds s′) (ap (λ (o : Outcome). o .state) (sym e)) (v .0 .holds);
       told =
           ap₂ (λ (x y : List ℕ). x ++ y) (g .told) (v .0 .told)
@@ -154,10 +151,6 @@ chain-keeps {s} {σ₀} {rs} {bs} c =
 
 -- ---- the full insert of demand 3, wherever in a chain it stands, also in the middle of a call
 
-narrow-front : (a b : List Request) → AllNarrow (a ++ b) → AllNarrow a
-narrow-front [] b h = tt
-narrow-front (r ∷ a) b h = (h .0, narrow-front a b (h .1))
-
 told-within : (σ : State) (a : List Request) (r : Request) (b : List Request) → let τ = run σ a .state in
     encodeAll (run σ (a ++ r ∷ b) .replies) ≡ encodeAll (run σ a .replies) ++ (encodeAll (apply τ r .replies) ++ encodeAll (run (apply τ r .state) b .replies))
 unfolding run
@@ -175,6 +168,6 @@ full-within a k v b {s} {bs} {σ₀} {rs} c e =
     record {
       before = run σ₀ a .state;
       before-is = refl;
-      full = demand-3-run σ₀ a (g .sound) (narrow-front a (IN k v ∷ b) z) .full k v;
+      full = demand-3-run σ₀ a (g .sound) (every-left Narrow a (IN k v ∷ b) z) .full k v;
       told = g .told ∙ ap (λ (l : List Request). encodeAll (run σ₀ l .replies)) e ∙ told-within σ₀ a (IN k v) b;
     }

@@ -10,9 +10,10 @@ use lib.ListN.{length}
 use lib.IntN.{ℤ, pos, negsuc, negℤ}
 use lib.Ieee.{Float, lt}
 use Rattle.rules.specs.declared.Turned.the-variants.{ShortStore}
-use Rattle.rules.specs.State.{most, emptyAt}
+use Rattle.rules.specs.State.{State, most, emptyAt}
+use Rattle.rules.specs.Records.{Request}
 use Rattle.rules.specs.Sizing.{Sized, limits, refused as misfit, product, badRatio, unit, beyond, sizingUpTo, sizing}
-use Rattle.rules.specs.Refusals.{storeBytes}
+use Rattle.rules.specs.Refusals.{numberOf, detailOf, storeBytes}
 use Rattle.rules.specs.Verdict.{done, turnedAway, onSized, create}
 use Rattle.rules.proofs.RefusalsLaws.{some-number}
 use Rattle.sizing.specs.declared.Settings.{Settings}
@@ -20,8 +21,10 @@ use Rattle.s3_fifo.specs.declared.Creation.{Creation}
 use Rattle.s3_fifo.specs.declared.Creation.the-variants.{Made, Refused as NotMade}
 use Rattle.s3_fifo.specs.declared.Ran.{Ran}
 use Rattle.s3_fifo.specs.declared.Ran.the-variants.{Done, Refused}
-use Rattle.s3_fifo.specs.Calls.{Said, gave, turned, createdSays, ranSays, Follows, Created}
+use Rattle.s3_fifo.specs.Calls.{Said, gave, turned, createdSays, ranSays, Follows, Created, Called}
 use Rattle.s3_fifo.specs.Once.{Agrees}
+use Rattle.s3_fifo.specs.Chains.{Chain, start, accepted, refused}
+use Rattle.s3_fifo.proofs.ChainLaws.{created-intact, called-intact}
 use Rattle.s3_fifo.proofs.OnceLaws as once
 use Rattle.mapcache.specs.Codes.{codeOf, detailIn, CreatedAs, CalledAs}
 use Rattle.mapcache.specs.Exported.{Negative, OneOutcome, Exported}
@@ -133,5 +136,43 @@ called-once c d =
       stores = o .stores;
     }
 
+-- ---- what was accepted, and what was not
+
+made : {capacity : ℕ} {small ghost : Float} {s s′ : List ℕ} → CreatedAs capacity small ghost s (pos 0) s′
+    → Created (record { capacity = capacity; «small_ratio» = small; «ghost_ratio» = ghost }) s Made s′
+made {capacity} {small} {ghost} {s} {s′} c =
+    let g : Settings = record { capacity = capacity; «small_ratio» = small; «ghost_ratio» = ghost } in
+    subst (λ (r : Creation). Created g s r s′) (by-code (c .answer) (c .code-is)) (c .created)
+  where
+    by-code : (r : Creation) → pos 0 ≡ codeOf (createdSays r) → r ≡ Made
+    by-code Made e = refl
+    by-code (NotMade t) e = absurd (omega (arith, ap below e, below-minus (numberOf t), some-number t))
+
+ran : {s q p s′ p′ : List ℕ} {n d : ℕ} → CalledAs s q p (pos n) d s′ p′ → Called s q p (Done n) s′ p′
+ran {s} {q} {p} {s′} {p′} {n} c = subst (λ (r : Ran). Called s q p r s′ p′) (by-code (c .answer) (c .code-is)) (c .called)
+  where
+    by-code : (r : Ran) → pos n ≡ codeOf (ranSays r) → r ≡ Done n
+    by-code (Done m) e = ap Done (sym (ap above e))
+    by-code (Refused t) e = absurd (omega (arith, ap below e, below-minus (numberOf t), some-number t))
+
+chain-stays : {s q p s′ p′ : List ℕ} {m : ℤ} {d : ℕ} {σ₀ : State} {rs : List Request} {bs : List ℕ} → Chain s σ₀ rs bs → CalledAs s q p m d s′ p′
+    → Negative m → Chain s′ σ₀ rs bs
+chain-stays {s} {q} {p} {s′} {p′} {m} {d} {σ₀} {rs} {bs} g c h = by-answer (c .answer) (c .code-is) (c .called)
+  where
+    by-answer : (r : Ran) → m ≡ codeOf (ranSays r) → Called s q p r s′ p′ → Chain s′ σ₀ rs bs
+    by-answer (Done n) e k = absurd (subst Negative e h)
+    by-answer (Refused t) e k = refused (numberOf t) (detailOf t) g k refl
+
 pub exported : Exported
-exported = record { created-once = created-once; called-once = called-once; created-apart = created-apart; called-apart = called-apart }
+exported =
+    record {
+      created-once = created-once;
+      called-once = called-once;
+      created-apart = created-apart;
+      called-apart = called-apart;
+      created-intact = λ c. created-intact (made c);
+      called-intact = λ c. called-intact (ran c);
+      chain-starts = λ c. start (made c);
+      chain-grows = λ g b c. accepted g b (ran c);
+      chain-stays = chain-stays;
+    }

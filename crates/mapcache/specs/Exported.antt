@@ -1,16 +1,24 @@
 -- What the exported calls promise: what crates/s3_fifo/specs/Promises.antt says of the calls below them, in the numbers that C sees. `exported`
--- (proofs/ExportedLaws.antt) gives it. Chains of calls need nothing of their own: each outcome of an exported call is one of the call below it.
+-- (proofs/ExportedLaws.antt) gives it. Calls one after the other are a `Chain`, so all that `Promises` says of chains is said of them.
 -- Assumes nothing.
 use mathlib.Core.Path.{_≡_}
-use mathlib.Core.List.{List, []}
+use mathlib.Core.List.{List, [], _++_}
 use Prim.Native.Nat.{ℕ}
+use lib.ListN.{take}
 use lib.IntN.{ℤ, pos, negsuc}
 use lib.Ieee.{Float}
+use Rattle.cells.specs.Cells.{Bytes}
+use Rattle.rules.specs.State.{State, emptyAt}
+use Rattle.rules.specs.Records.{Request}
+use Rattle.rules.specs.Bytes.{parse}
+use Rattle.rules.specs.Sizing.{limitsFor}
+use Rattle.rules.specs.Verdict.{damaged}
 use Rattle.sizing.specs.declared.Settings.{Settings}
 use Rattle.s3_fifo.specs.declared.Creation.{Creation}
 use Rattle.s3_fifo.specs.declared.Ran.{Ran}
-use Rattle.s3_fifo.specs.Calls.{Said, createdSays, ranSays, Created}
+use Rattle.s3_fifo.specs.Calls.{Said, createdSays, ranSays, ReadsAs, Created}
 use Rattle.s3_fifo.specs.Once.{Agrees}
+use Rattle.s3_fifo.specs.Chains.{Chain}
 use Rattle.mapcache.specs.Codes.{codeOf, detailIn, CreatedAs, CalledAs}
 
 -- below 0: a refusal
@@ -37,3 +45,13 @@ pub record Exported : Type 0 where
   pub created-apart : {g h : Settings} {s₁ s₂ t₁ t₂ : List ℕ} (r t : Creation) → Created g s₁ r s₂ → Created h t₁ t t₂
       → codeOf (createdSays r) ≡ codeOf (createdSays t) → r ≡ t
   pub called-apart : (r t : Ran) → codeOf (ranSays r) ≡ codeOf (ranSays t) → detailIn (ranSays r) ≡ detailIn (ranSays t) → r ≡ t
+  -- a fresh store never counts as damaged, nor does one that an accepted call left
+  pub created-intact : {capacity : ℕ} {small ghost : Float} {s s′ : List ℕ} → CreatedAs capacity small ghost s (pos 0) s′ → ReadsAs s′ damaged → ⊥
+  pub called-intact : {s q p s′ p′ : List ℕ} {n d : ℕ} → CalledAs s q p (pos n) d s′ p′ → ReadsAs s′ damaged → ⊥
+  -- a creation starts a chain, an accepted call adds its requests and its reply bytes, a refused one leaves it as it is
+  pub chain-starts : {capacity : ℕ} {small ghost : Float} {s s′ : List ℕ} → CreatedAs capacity small ghost s (pos 0) s′
+      → Chain s′ (emptyAt (limitsFor capacity small ghost)) [] []
+  pub chain-grows : {s q p s′ p′ : List ℕ} {n d : ℕ} {σ₀ : State} {rs : List Request} {bs : List ℕ} → Chain s σ₀ rs bs → Bytes q
+      → CalledAs s q p (pos n) d s′ p′ → Chain s′ σ₀ (rs ++ parse q .requests) (bs ++ take n p′)
+  pub chain-stays : {s q p s′ p′ : List ℕ} {m : ℤ} {d : ℕ} {σ₀ : State} {rs : List Request} {bs : List ℕ} → Chain s σ₀ rs bs → CalledAs s q p m d s′ p′
+      → Negative m → Chain s′ σ₀ rs bs

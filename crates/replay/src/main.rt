@@ -183,7 +183,7 @@ fn put(bytes: &[u8], n: usize)
     }
 }
 
-// Writes it.
+// Answers the first n bytes of the input on standard output.
 fn answer(input: &[u8], n: usize)
     requires { ⌜ (mostInput ≡ length (now input)) × (n ≤ length (now input)) ⌝ }
 {

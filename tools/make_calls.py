@@ -13,7 +13,7 @@ import os
 import struct
 import sys
 
-STORE_BYTES = 57600
+STORE_BYTES = 61696
 MOST_REQUEST_BYTES = 32768
 REPLAY_ROOM = 65536
 FILL, LAY, CREATE, RUN = range(4)

@@ -21,7 +21,7 @@ pub enum Found {
 
 // The bucket of a key.
 fn bucket_of_key(k: u64, buckets: usize) -> usize
-    requires { ⌜ (0 < buckets) × (buckets ≤ 65536) ⌝ }
+    requires { ⌜ (0 < buckets) × (buckets ≤ 4294967296) ⌝ }
     ensures { λ r. ⌜ (r ≡ bucketOf k buckets) × (r < buckets) ⌝ }
 {
     let folded = (k / 0x1_0000_0000 * 2246822507 + k % 0x1_0000_0000) % 0x1_0000_0000;

@@ -25,7 +25,7 @@ fit : (z : Shape) → 1 ≤ z .room → 1 ≤ z .buckets → Each (Spaced (end z
 fit z h k = omega arith
 
 order : (z : Shape) → 1 ≤ z .room → 1 ≤ z .buckets → InOrder (end z) (layout z)
-order z h k = (omega arith, (omega arith, (omega arith, omega arith)))
+order z h k = (omega arith, (omega arith, omega arith))
 
 -- ---- bytes to columns
 

@@ -25,7 +25,7 @@ code Freq = 7
 code Bucket = 8
 code Rest = 9
 
--- where the buckets' heads start: behind the header, the nodes and the sentinels
+-- where the buckets' heads start: behind the header and the columns of the nodes, 24 bytes to each
 abbrev pub heads : Shape → ℕ
 heads z = 128 + 24 * (z .room + 4)
 
@@ -33,9 +33,9 @@ heads z = 128 + 24 * (z .room + 4)
 abbrev pub used : Shape → ℕ
 used z = heads z + 2 * z .buckets
 
--- a field of w bytes at an offset in each node; the sentinels are nodes too
-abbrev inNode : Shape → ℕ → ℕ → Span
-inNode z off w = record { start = 128 + off; stride = 24; width = w; rows = z .room + 4 }
+-- a column of cells of w bytes, behind columns of b bytes to a node; the sentinels are nodes too
+abbrev perNode : Shape → ℕ → ℕ → Span
+perNode z b w = record { start = 128 + b * (z .room + 4); stride = w; width = w; rows = z .room + 4 }
 
 -- no cells, where the store ends
 abbrev pub end : Shape → Span
@@ -45,13 +45,13 @@ end z = record { start = used z; stride = 0; width = 0; rows = 0 }
 abbrev pub layout : Shape → List Span
 layout z =
     record { start = 0; stride = 8; width = 8; rows = 16 }
-    ∷ inNode z 0 8
-    ∷ inNode z 8 8
-    ∷ inNode z 16 2
-    ∷ inNode z 18 2
-    ∷ inNode z 20 2
-    ∷ inNode z 22 1
-    ∷ inNode z 23 1
+    ∷ perNode z 0 8
+    ∷ perNode z 8 8
+    ∷ perNode z 16 2
+    ∷ perNode z 18 2
+    ∷ perNode z 20 2
+    ∷ perNode z 22 1
+    ∷ perNode z 23 1
     ∷ record { start = heads z; stride = 2; width = 2; rows = z .buckets }
     ∷ []
 
@@ -75,12 +75,12 @@ over c f i v g = pick (eqb (code f) (code g)) (set (c g) i v) (c g)
 unfoldable pub withColumn : Cols → Field → List ℕ → Cols
 withColumn c f l g = pick (eqb (code f) (code g)) l (c g)
 
--- what every function asks of a store: there are nodes and buckets, two bytes number them, and the bytes are there
+-- what every function asks of a store: there are nodes and buckets, two bytes number the nodes, and the bytes are there
 pub record Room (z : Shape) (s : List ℕ) : Type 0 where
   pub some-room : 1 ≤ z .room
   pub some-buckets : 1 ≤ z .buckets
   pub few : z .room + 4 < 65536
-  pub few-buckets : z .buckets ≤ 65536
+  pub few-buckets : z .buckets ≤ 4294967296
   pub fits : used z ≤ length s
 
 -- v was written to cell i of f, and nothing else changed

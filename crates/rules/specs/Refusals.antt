@@ -13,7 +13,7 @@ use Rattle.rules.specs.Bytes.{End, whole, unknownAt, cutAt, Parsed, room
 
 -- the one fixed size of a store
 abbrev pub storeBytes : ℕ
-storeBytes = 57600
+storeBytes = 61696
 
 -- the longest requests of one call
 abbrev pub mostRequestBytes : ℕ

@@ -126,7 +126,7 @@ impl S3FifoCache {
     pub const DEFAULT_GHOST_RATIO: f64 = 0.9;
 
     // The one fixed size of a store.
-    pub const STORE_BYTES: usize = 57600;
+    pub const STORE_BYTES: usize = 61696;
 
     // The version of the interface. It stands here alone: header, wrapper and programs take it from here (tools/version).
     pub const VERSION: [u8; 5] = *b"0.2.0";

@@ -54,9 +54,9 @@ restIn z s = cols z s Rest
 
 -- ---- when a store holds it
 
--- a node for each resident and each ghost that the limits allow, and two buckets to a node
+-- a node for each resident and each ghost that the limits allow, and three buckets to a node
 abbrev pub shapeFor : Limits → Shape
-shapeFor L = record { room = L .capacity + L .ghostLimit; buckets = 2 * (L .capacity + L .ghostLimit) }
+shapeFor L = record { room = L .capacity + L .ghostLimit; buckets = 3 * (L .capacity + L .ghostLimit) }
 
 -- lists, index and numbers are as they should be
 pub record Keeps (z : Shape) (s : List ℕ) : Type 0 where

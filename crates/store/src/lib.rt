@@ -255,7 +255,7 @@ pub fn shape_of(limits: Limits) -> Shape
     let room = (limits.capacity + limits.ghost_limit) as usize;
     Shape {
         room,
-        buckets: 2 * room,
+        buckets: 3 * room,
     }
 }
 

@@ -11,7 +11,7 @@ use crate::state::State;
 pub const CREATE_REFUSALS: [u8; 6] = [1, 2, 3, 4, 5, 6];
 pub const RUN_REFUSALS: [u8; 5] = [6, 7, 8, 9, 10];
 
-pub const STORE_BYTES: usize = 57_600;
+pub const STORE_BYTES: usize = 61_696;
 pub const MOST_REQUEST_BYTES: usize = 32_768;
 
 #[derive(Clone, Debug, PartialEq)]

@@ -46,7 +46,8 @@ FILL_IN := sed -e 's|@VERSION@|$(VERSION)|' -e 's|@VERSION_MAJOR@|$(word 1,$(VER
 CFLAGS := -std=c11 -Wall -Wextra -Wpedantic -Werror -O2 -g -I$(INCLUDE)
 HAVE_ORIGINAL := $(wildcard $(ORIGINAL)/src/policy/s3_fifo.rs)
 # Cargo counts its jobs by itself, and is not told of make's.
-CARGO_HERE := MAKEFLAGS= ORIGINAL='$(abspath $(ORIGINAL))' MAPCACHE_LIB_DIR='$(abspath $(dir $(ARCHIVE)))' cargo
+cargo_over = MAKEFLAGS= ORIGINAL='$(abspath $(ORIGINAL))' MAPCACHE_LIB_DIR='$(abspath $(dir $(1)))' cargo
+CARGO_HERE := $(call cargo_over,$(ARCHIVE))
 CARGO_FLAGS := --quiet --release --offline --locked
 RECORDED := crates/recorded/data
 

@@ -14,8 +14,10 @@ RECORDED_CASES := $(addprefix $(RECORDED)/,few.bin many.bin most.bin)
 
 DIFFERENTIAL := $(CARGO) run $(CARGO_FLAGS) -p differential --bin differential --
 RECORD := $(CARGO) run $(CARGO_FLAGS) -p differential --bin record --
-# Built as hosts build, and not with the checks of the tests.
-BENCH := $(CARGO) run $(filter-out --release,$(CARGO_FLAGS)) --profile timed -p bench --
+# Built as hosts build, and not with the checks of the tests; and for this processor, whichever it is, since under an emulator
+# times say nothing.
+BENCH := $(call cargo_over,$(TIMED_ARCHIVE)) run \
+	$(filter-out --release,$(CARGO_FLAGS)) --profile timed -p bench --
 
 .PHONY: differential-gate differential departures record bench need-original
 
@@ -45,7 +47,11 @@ record: need-original $(ARCHIVE)
 	@mkdir -p $(RECORDED)
 	@$(RECORD) write $(RECORDED) $(GHOSTS)
 
-bench: need-original $(ARCHIVE)
-	@test -n '$(NATIVE)' || { echo 'bench: $(MACHINE): times would be those of an emulator' >&2; exit 1; }
+ifeq ($(NATIVE),)
+$(TIMED_ARCHIVE): $(ARCHIVE) tools/own-archive
+	@tools/own-archive $@
+endif
+
+bench: need-original $(TIMED_ARCHIVE)
 	@test '$(STRICT)' != 1 || command -v valgrind > /dev/null || { echo 'bench: there is no valgrind to count instructions' >&2; exit 1; }
 	@$(BENCH)

@@ -196,6 +196,39 @@ def open_byte(offset, before, after):
     lay(offset, *before)
 
 
+# The store that docs/STORE.md shows: four nodes, four sentinels; each field a column, and the buckets' heads behind them.
+NODES, SENTINELS = 4, 4
+END = [NODES, 0]  # the link that ends a chain
+
+
+def column(before, width):
+    return lambda node: 128 + before * (NODES + SENTINELS) + width * node
+
+
+key, value, next_of, prev_of, chain = column(0, 8), column(8, 8), column(16, 2), column(18, 2), column(20, 2)
+queue, freq = column(22, 1), column(23, 1)
+
+
+def bucket(number):
+    return 128 + 24 * (NODES + SENTINELS) + 2 * number
+
+
+def shared_bucket():
+    """Two keys of bucket 0, the smaller one first; changed about, with all links as they should be, it is no index."""
+    smaller, larger = 0, 6343112085
+    create(settings(2))
+    run(IN(larger, 20) + IN(smaller, 10), NW(0) + NW(0))
+    links = [(bucket(0), 2), (chain(2), 3), (chain(3), NODES)]
+    for offset, node in [(bucket(0), 3), (chain(3), 2), (chain(2), NODES)]:
+        lay(offset, node, 0)
+    run(PK(smaller), number=7)
+    for offset, node in links:
+        lay(offset, node, 0)
+    run(PK(smaller) + PK(larger), HI(10) + HI(20))
+    create(settings(2))
+    run(*TRACE_B)
+
+
 def refusal_7():
     """Damage to the store that docs/STORE.md shows, one piece at a time, and the store mended again after each."""
     fill(MEMORY)
@@ -204,31 +237,39 @@ def refusal_7():
     create(settings(2))
     run(*TRACE_B)
 
-    damaged(0, [2], [0])                     # the capacity is 0
-    damaged(0, [2, 0], [1, 4])               # the capacity is 1,025
-    damaged(0, [2], [3])                     # another capacity, so that the lists stand elsewhere
-    damaged(8, [0], [3])                     # Small's limit is above the capacity
-    damaged(16, [2, 0], [1, 4])              # the ghost limit is 1,025
-    damaged(16, [2], [1])                    # another ghost limit
-    damaged(40, [1], [2])                    # Small has another length
-    damaged(56, [1], [0])                    # the ghosts have another length
-    damaged(152, [3], [1])                   # two residents with one key
-    damaged(152, [3], [5])                   # a key in another's bucket
-    damaged(168, [5], [9])                   # a link to a node that is none
-    damaged(168, [5], [6])                   # a link into another list
-    damaged(170, [5], [1])                   # a backward link that is not the forward one
-    damaged(172, [255, 255], [1, 0])         # a chain that goes round
-    damaged(174, [1], [2])                   # a tag that is not its list's
-    damaged(175, [0], [4])                   # a frequency of 4
-    damaged(332, [1, 0], [255, 255])         # a resident that the index does not find
-    damaged(322, [2, 0], [255, 255])         # a ghost that the index does not find
-    open_byte(8, [0], [2])                   # Small's limit is the capacity: another sound state
-    open_byte(175, [0], [3])                 # a frequency of 3: another sound state
-    open_byte(24, [MEMORY], [0])             # header cell 3
-    open_byte(64, [MEMORY] * 64, range(64))  # header cells 8 to 15
-    open_byte(184, [20], [99])               # the value of a ghost
-    open_byte(199, [0], [9])                 # the frequency of a ghost
-    open_byte(172, [255, 255], [9, 0])       # another number that ends a chain
+    damaged(0, [2], [0])                       # the capacity is 0
+    damaged(0, [2, 0], [1, 4])                 # the capacity is 1,025
+    damaged(0, [2], [3])                       # another capacity, so that the lists stand elsewhere
+    damaged(8, [0], [3])                       # Small's limit is above the capacity
+    damaged(16, [2, 0], [1, 4])                # the ghost limit is 1,025
+    damaged(16, [2], [1])                      # another ghost limit
+    damaged(40, [1], [2])                      # Small has another length
+    damaged(56, [1], [0])                      # the ghosts have another length
+    damaged(key(1), [3], [1])                  # two residents with one key
+    damaged(key(1), [3], [5])                  # a key in another's bucket
+    damaged(next_of(1), [5], [9])              # a link to a node that is none
+    damaged(next_of(1), [5], [6])              # a link into another list
+    damaged(prev_of(1), [5], [1])              # a backward link that is not the forward one
+    damaged(chain(1), END, [1, 0])             # a chain that goes round
+    damaged(chain(1), END, [0, 0])             # a chain that goes on to a free node
+    damaged(chain(1), END, [255, 255])         # a chain that ends with another number
+    damaged(chain(NODES), END, [0, 0])         # what ends the chains leads on
+    damaged(queue(NODES), [0], [1])            # what ends the chains is in a list
+    damaged(queue(1), [1], [2])                # a tag that is not its list's
+    damaged(freq(1), [0], [4])                 # a frequency of 4
+    damaged(bucket(10), [1, 0], END)           # a resident that the index does not find
+    damaged(bucket(2), [2, 0], END)            # a ghost that the index does not find
+    damaged(bucket(0), END, [0, 0])            # a bucket that has a free node
+    damaged(bucket(0), END, [5, 0])            # an empty bucket with another number
+    open_byte(8, [0], [2])                     # Small's limit is the capacity: another sound state
+    open_byte(freq(1), [0], [3])               # a frequency of 3: another sound state
+    open_byte(24, [MEMORY], [0])               # header cell 3
+    open_byte(64, [MEMORY] * 64, range(64))    # header cells 8 to 15
+    open_byte(value(2), [20], [99])            # the value of a ghost
+    open_byte(freq(2), [0], [9])               # the frequency of a ghost
+    open_byte(chain(0), [MEMORY] * 2, [9, 0])  # the chain of a free node
+    open_byte(chain(5), [MEMORY] * 2, [1, 0])  # the chain of another sentinel than Free's
+    shared_bucket()
     for byte in (0, 255, 1):
         fill(byte)
         run(b"", number=7)

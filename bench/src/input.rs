@@ -7,7 +7,7 @@ pub const CAPACITIES: [u64; 2] = [100, 1000];
 pub const PATTERNS: [Pattern; 3] = [Pattern::Uniform, Pattern::Skewed, Pattern::Scan];
 
 const LOOKUPS_TO_AN_INSERT: u64 = 4;
-const SEED: u64 = 1;
+pub const SEED: u64 = 1;
 
 /// How the keys of lookups and inserts come.
 #[derive(Clone, Copy, Debug, PartialEq, Eq)]
@@ -45,14 +45,19 @@ pub struct Input {
 }
 
 /// So many requests, in calls as large as they may be.
-pub fn input(capacity: u64, pattern: Pattern, requests: u64) -> Input {
-    let mut keys = Keys::new(capacity, pattern);
+pub fn input(capacity: u64, pattern: Pattern, requests: u64, seed: u64) -> Input {
+    let mut keys = Keys::new(capacity, pattern, seed);
+    let requests = (0..requests).map(|number| match number % (LOOKUPS_TO_AN_INSERT + 1) {
+        LOOKUPS_TO_AN_INSERT => Request::Insert(keys.next_insert(), PhysicalBlock(number)),
+        _ => Request::Get(keys.next_lookup()),
+    });
+    Input { settings: Settings::with_capacity(capacity), calls: calls(requests) }
+}
+
+/// These requests, in calls as large as they may be.
+pub fn calls(requests: impl Iterator<Item = Request>) -> Vec<Call> {
     let mut calls = vec![Call { requests: Vec::new(), room: 0 }];
-    for number in 0..requests {
-        let request = match number % (LOOKUPS_TO_AN_INSERT + 1) {
-            LOOKUPS_TO_AN_INSERT => Request::Insert(keys.next_insert(), PhysicalBlock(number)),
-            _ => Request::Get(keys.next_lookup()),
-        };
+    for request in requests {
         let mut call = calls.pop().expect("there is a call");
         if call.requests.len() + request.bytes() > MOST_REQUEST_BYTES {
             calls.push(call);
@@ -62,7 +67,7 @@ pub fn input(capacity: u64, pattern: Pattern, requests: u64) -> Input {
         call.room += request.reply_room();
         calls.push(call);
     }
-    Input { settings: Settings::with_capacity(capacity), calls }
+    calls
 }
 
 struct Keys {
@@ -76,7 +81,7 @@ struct Keys {
 }
 
 impl Keys {
-    fn new(capacity: u64, pattern: Pattern) -> Keys {
+    fn new(capacity: u64, pattern: Pattern, seed: u64) -> Keys {
         let universe = match pattern {
             Pattern::Uniform => 2 * capacity,
             Pattern::Skewed => 10 * capacity,
@@ -88,7 +93,8 @@ impl Keys {
                 Some(*sum)
             })
             .collect();
-        Keys { pattern, random: Random::new(SEED), universe, looked_up: 0, inserted: 0, sums }
+        // A scan starts elsewhere with each seed.
+        Keys { pattern, random: Random::new(seed), universe, looked_up: 7 * seed, inserted: 7 * seed, sums }
     }
 
     fn next_lookup(&mut self) -> GuestBlock {

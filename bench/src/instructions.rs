@@ -1,6 +1,6 @@
 //! Instructions, counted by callgrind: this program runs itself under valgrind and has one function counted.
 
-use crate::input::{Input, Pattern, input};
+use crate::input::{Input, Pattern, SEED, input};
 use crate::sides::{Original, Ours, Side};
 use std::env;
 use std::hint::black_box;
@@ -32,7 +32,7 @@ pub fn count(side: &str, capacity: u64, pattern: Pattern, requests: u64) -> Resu
 
 /// What is run under valgrind.
 pub fn once(side: &str, capacity: u64, pattern: Pattern, requests: u64) -> Result<(), String> {
-    let input = input(capacity, pattern, requests);
+    let input = input(capacity, pattern, requests, SEED);
     match side {
         "ours" => bench_ours(&mut Ours::new(&input), &input),
         "original" => bench_original(&mut Original::new(&input), &input),

@@ -1,13 +1,15 @@
-//! The proved library and the original on the same requests in the same run: times as ratios, the share of the
-//! soundness check, and instructions where valgrind is present. Prints the tables of docs/SPEED.md.
+//! The proved library and the original on the same requests in the same run: times as ratios, the check of a store
+//! alone, and instructions where valgrind is present. Prints the tables of docs/SPEED.md.
 
 mod input;
 mod instructions;
 mod sides;
+mod stores;
 mod times;
 
 use common::program;
-use input::{CAPACITIES, PATTERNS, Pattern, input};
+use input::{CAPACITIES, PATTERNS, Pattern, SEED, input};
+use std::env::consts::ARCH;
 use std::fs;
 use std::process::ExitCode;
 
@@ -31,6 +33,7 @@ fn main() -> ExitCode {
 fn all(requests: u64) -> Result<(), String> {
     println!("Processor: {}", machine());
     print_times(requests);
+    print_checks();
     match instructions::possible() {
         true => print_instructions(COUNTED_REQUESTS.min(requests)),
         false => {
@@ -43,23 +46,29 @@ fn all(requests: u64) -> Result<(), String> {
 fn print_times(requests: u64) {
     println!("{requests} requests, four lookups to an insert, calls of at most 32,768 bytes:\n");
     println!(
-        "| capacity | keys | lookups that hit | ours, ns a request | original, ns a request | ours / original | of ours, the soundness check |"
+        "| capacity | keys | lookups that hit | ours, ns a request | original, ns a request | ours / original | original, no reply written | ours / that |"
     );
-    println!("|---|---|---|---|---|---|---|");
+    println!("|---|---|---|---|---|---|---|---|");
     for (capacity, pattern) in inputs() {
-        let input = input(capacity, pattern, requests);
+        let input = input(capacity, pattern, requests, SEED);
         let hits = times::compare(&input);
         let times = times::measure(&input);
-        let each = |time: std::time::Duration| time.as_nanos() as f64 / requests as f64;
+        let [ours, original, unwritten] =
+            [times.ours, times.original, times.unwritten].map(|time| time.as_nanos() as f64 / requests as f64);
         println!(
-            "| {capacity} | {} | {:.0} % | {:.1} | {:.1} | {:.2} | {:.0} % |",
+            "| {capacity} | {} | {:.0} % | {ours:.1} | {original:.1} | {:.2} | {unwritten:.1} | {:.2} |",
             pattern.name(),
             100.0 * hits,
-            each(times.ours),
-            each(times.original),
-            each(times.ours) / each(times.original),
-            100.0 * each(times.check) / each(times.ours),
+            ours / original,
+            ours / unwritten,
         );
+    }
+}
+
+fn print_checks() {
+    println!("\nThe check of a store, of eight in turn:\n\n| store | microseconds |\n|---|---|");
+    for kind in stores::kinds() {
+        println!("| {} | {:.1} |", kind.name(), kind.check().as_nanos() as f64 / 1000.0);
     }
 }
 
@@ -86,11 +95,16 @@ fn inputs() -> impl Iterator<Item = (u64, Pattern)> {
     CAPACITIES.into_iter().flat_map(|capacity| PATTERNS.into_iter().map(move |pattern| (capacity, pattern)))
 }
 
-/// The processor's name, as the system gives it.
+/// The processor, by its name or, where the system gives none, by its maker's numbers.
 fn machine() -> String {
     let about = fs::read_to_string("/proc/cpuinfo").unwrap_or_default();
-    let name = about.lines().find_map(|line| line.strip_prefix("model name")?.split_once(':'));
-    name.map_or("unknown", |(_, name)| name.trim()).to_string()
+    let said = |what: &str| {
+        let (_, value) = about.lines().find_map(|line| line.strip_prefix(what)?.split_once(':'))?;
+        Some(value.trim().to_string())
+    };
+    let numbers = || Some(format!("implementer {}, part {}", said("CPU implementer")?, said("CPU part")?));
+    let name = said("model name").or_else(numbers).unwrap_or_else(|| "unknown".to_string());
+    format!("{name} ({ARCH})")
 }
 
 fn once(side: &str, capacity: &str, pattern: &str, requests: &str) -> Result<(), String> {

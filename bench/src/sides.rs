@@ -7,9 +7,13 @@
 use crate::input::{Call, Input};
 use mapcache::{GuestBlock, Pair, PhysicalBlock, Reply, Request};
 use original::policy::s3_fifo::S3FifoCache;
+use std::hint::black_box;
 
 /// A report of zeros, in place of the pair that the original does not name.
 pub const SOME_PAIR_LEFT: Reply = Reply::LeftSmall(Pair { guest: GuestBlock(0), physical: PhysicalBlock(0) });
+
+/// A key that no input has.
+const NEVER_INSERTED: GuestBlock = GuestBlock(u64::MAX);
 
 pub trait Side {
     /// Runs all calls; answers the reply bytes of each to the function given.
@@ -19,21 +23,25 @@ pub trait Side {
 pub struct Ours {
     store: Vec<u8>,
     replies: Vec<u8>,
+    peek: Vec<u8>,
+    nothing: Vec<u8>,
 }
 
 impl Ours {
     pub fn new(input: &Input) -> Ours {
         let mut store = vec![0; mapcache::store_bytes()];
         mapcache::create(input.settings, &mut store).expect("the settings are valid");
-        Ours { store, replies: vec![0; most_room(&input.calls)] }
+        let (mut peek, mut nothing) = (Vec::new(), Vec::new());
+        Request::Peek(NEVER_INSERTED).write(&mut peek);
+        Reply::Nothing.write(&mut nothing);
+        let room = most_room(&input.calls).max(Request::Peek(NEVER_INSERTED).reply_room());
+        Ours { store, replies: vec![0; room], peek, nothing }
     }
 
-    /// So many calls of no request: each checks that the store is sound, and that is all.
-    pub fn check(&mut self, times: usize) {
-        for _ in 0..times {
-            let written = mapcache::run(&mut self.store, &[], &mut self.replies).expect("the store is sound");
-            assert_eq!(written, 0, "no requests have no replies");
-        }
+    /// A call of one peek, of a key that is not there: it checks that the store is sound, and does next to nothing else.
+    pub fn check(&mut self) {
+        let written = mapcache::run(&mut self.store, &self.peek, &mut self.replies).expect("the store is sound");
+        assert_eq!(self.replies[..written], self.nothing, "the key is not there");
     }
 }
 
@@ -52,11 +60,14 @@ pub struct Original {
     replies: Vec<u8>,
 }
 
+fn original_cache(input: &Input) -> S3FifoCache<u64, u64> {
+    let settings = input.settings;
+    S3FifoCache::with_ratios(settings.capacity as usize, settings.small_ratio, settings.ghost_ratio)
+}
+
 impl Original {
     pub fn new(input: &Input) -> Original {
-        let settings = input.settings;
-        let cache = S3FifoCache::with_ratios(settings.capacity as usize, settings.small_ratio, settings.ghost_ratio);
-        Original { cache, replies: Vec::with_capacity(most_room(&input.calls)) }
+        Original { cache: original_cache(input), replies: Vec::with_capacity(most_room(&input.calls)) }
     }
 
     fn answer(&mut self, request: Request) {
@@ -86,15 +97,47 @@ impl Side for Original {
     fn run(&mut self, calls: &[Call], each: &mut dyn FnMut(&[u8])) {
         for call in calls {
             self.replies.clear();
-            let mut rest = call.requests.as_slice();
-            while let Some(request) = Request::read(rest) {
-                rest = &rest[request.bytes()..];
-                self.answer(request);
-            }
-            assert!(rest.is_empty(), "the requests are whole records");
+            each_request(call, |request| self.answer(request));
             each(&self.replies);
         }
     }
+}
+
+/// The original's calls alone: what they return is not written down.
+pub struct Unwritten {
+    cache: S3FifoCache<u64, u64>,
+}
+
+impl Unwritten {
+    pub fn new(input: &Input) -> Unwritten {
+        Unwritten { cache: original_cache(input) }
+    }
+
+    fn answer(&mut self, request: Request) {
+        match request {
+            Request::Get(guest) => drop(black_box(self.cache.get(&guest.0))),
+            Request::Insert(guest, physical) => drop(black_box(self.cache.insert(guest.0, physical.0))),
+            request => panic!("{request} is not among the requests that are timed"),
+        }
+    }
+}
+
+impl Side for Unwritten {
+    fn run(&mut self, calls: &[Call], each: &mut dyn FnMut(&[u8])) {
+        for call in calls {
+            each_request(call, |request| self.answer(request));
+            each(&[]);
+        }
+    }
+}
+
+fn each_request(call: &Call, mut answer: impl FnMut(Request)) {
+    let mut rest = call.requests.as_slice();
+    while let Some(request) = Request::read(rest) {
+        rest = &rest[request.bytes()..];
+        answer(request);
+    }
+    assert!(rest.is_empty(), "the requests are whole records");
 }
 
 fn most_room(calls: &[Call]) -> usize {

@@ -1,7 +1,7 @@
-//! Times, of both sides in turn in the same run. Of some rounds the quickest counts: what else the machine does only adds.
+//! Times, of all sides in turn in the same run. Of some rounds the quickest counts: what else the machine does only adds.
 
 use crate::input::Input;
-use crate::sides::{Original, Ours, SOME_PAIR_LEFT, Side};
+use crate::sides::{Original, Ours, SOME_PAIR_LEFT, Side, Unwritten};
 use mapcache::Reply;
 use std::hint::black_box;
 use std::time::{Duration, Instant};
@@ -11,20 +11,24 @@ const ROUNDS: usize = 9;
 pub struct Times {
     pub ours: Duration,
     pub original: Duration,
-    /// Of as many calls of no request as the input has calls: what testing the store takes.
-    pub check: Duration,
+    /// The original's calls, and no reply written.
+    pub unwritten: Duration,
 }
 
 pub fn measure(input: &Input) -> Times {
-    let mut best = Times { ours: Duration::MAX, original: Duration::MAX, check: Duration::MAX };
+    let mut best = Times { ours: Duration::MAX, original: Duration::MAX, unwritten: Duration::MAX };
     for _ in 0..ROUNDS {
-        let mut ours = Ours::new(input);
-        let mut original = Original::new(input);
+        let (mut ours, mut original, mut unwritten) = (Ours::new(input), Original::new(input), Unwritten::new(input));
         best.ours = best.ours.min(timed(|| run(&mut ours, input)));
         best.original = best.original.min(timed(|| run(&mut original, input)));
-        best.check = best.check.min(timed(|| ours.check(input.calls.len())));
+        best.unwritten = best.unwritten.min(timed(|| run(&mut unwritten, input)));
     }
     best
+}
+
+/// The quickest of some rounds of the same work.
+pub fn best_of_rounds(mut work: impl FnMut()) -> Duration {
+    (0..ROUNDS).map(|_| timed(&mut work)).min().expect("there are rounds")
 }
 
 /// Holds the two sides to the same replies, as far as the original knows them; answers the share of lookups that hit.

@@ -31,6 +31,8 @@ pub enum Damage {
     SwappedNodes,
     /// Two buckets swap their chains.
     SwappedBuckets,
+    /// Two neighbours of a chain change places: all of its nodes are there, and their keys do not rise.
+    SwappedInChain,
     /// A node is in no list, all of which are whole.
     LostNode,
     /// One or two nodes are in another list, all of which are whole; the index is as it was.
@@ -53,7 +55,7 @@ pub enum Damage {
     OpenBytes,
 }
 
-pub const KINDS: [Damage; 21] = [
+pub const KINDS: [Damage; 22] = [
     Damage::Byte,
     Damage::Bit,
     Damage::Limit,
@@ -65,6 +67,7 @@ pub const KINDS: [Damage; 21] = [
     Damage::SwappedField,
     Damage::SwappedNodes,
     Damage::SwappedBuckets,
+    Damage::SwappedInChain,
     Damage::LostNode,
     Damage::MovedNodes,
     Damage::TradedLimits,
@@ -86,18 +89,21 @@ pub fn inflict(kind: Damage, store: &mut [u8], other: &[u8], random: &mut Random
         Damage::Limit => set_header(store, random.pick(&[CAPACITY, SMALL_LIMIT, GHOST_LIMIT]), random),
         Damage::Length => set_header(store, LENGTHS + random.index(4), random),
         Damage::Link => lead_elsewhere(store, layout, random),
-        Damage::Tag => store[layout.field(random.index(layout.nodes), QUEUE).start] = random.below(6) as u8,
+        Damage::Tag => store[layout.field(random.index(layout.nodes + 1), QUEUE).start] = random.below(6) as u8,
         Damage::Frequency => store[layout.field(random.index(layout.nodes), FREQ).start] = random.below(9) as u8,
         Damage::CopiedKey => copy_key(store, layout, random),
         Damage::SwappedField => swap_fields(store, layout, random),
         Damage::SwappedNodes => {
             let (a, b) = (random.index(layout.nodes + SENTINELS), random.index(layout.nodes + SENTINELS));
-            swap(store, layout.node(a).start, layout.node(b).start, layout.node(a).len());
+            for field in FIELDS {
+                swap(store, layout.field(a, field).start, layout.field(b, field).start, field.width);
+            }
         },
         Damage::SwappedBuckets => {
             let (a, b) = (random.index(layout.buckets()), random.index(layout.buckets()));
             swap(store, layout.bucket(a).start, layout.bucket(b).start, 2);
         },
+        Damage::SwappedInChain => swap_in_chain(Edit { store, layout }, random),
         Damage::LostNode => Edit { store, layout }.detach(random.index(layout.nodes)),
         Damage::MovedNodes => move_nodes(Edit { store, layout }, random),
         Damage::TradedLimits => trade_limits(Edit { store, layout }, random),
@@ -127,6 +133,26 @@ fn swap_fields(store: &mut [u8], layout: Layout, random: &mut Random) {
     swap(store, layout.field(a, field).start, layout.field(b, field).start, field.width);
 }
 
+/// In a chain of two nodes or more, if there is one.
+fn swap_in_chain(mut edit: Edit, random: &mut Random) {
+    let layout = edit.layout;
+    let read = Read::new(edit.store).expect("the store is sound");
+    let chains = (0..layout.buckets()).map(|bucket| (bucket, read.chain(bucket).expect("the store is sound")));
+    let long: Vec<_> = chains.filter(|(_, nodes)| nodes.len() > 1).collect();
+    if long.is_empty() {
+        return;
+    }
+    let (bucket, nodes) = &long[random.index(long.len())];
+    let at = random.index(nodes.len() - 1);
+    let behind = edit.get(nodes[at + 1], CHAIN);
+    match at {
+        0 => edit.store[layout.bucket(*bucket)].copy_from_slice(&(nodes[1] as u16).to_le_bytes()),
+        _ => edit.set(nodes[at - 1], CHAIN, nodes[at + 1]),
+    }
+    edit.set(nodes[at + 1], CHAIN, nodes[at]);
+    edit.set(nodes[at], CHAIN, behind);
+}
+
 fn trade_limits(mut edit: Edit, random: &mut Random) {
     let change = random.between(1, 3) as i64 * random.pick(&[1, -1]);
     edit.add_to_header(CAPACITY, change);
@@ -150,7 +176,7 @@ fn lead_elsewhere(store: &mut [u8], layout: Layout, random: &mut Random) {
     let place = match random.below(4) {
         0 => layout.field(random.index(layout.nodes + SENTINELS), NEXT),
         1 => layout.field(random.index(layout.nodes + SENTINELS), PREV),
-        2 => layout.field(random.index(layout.nodes), CHAIN),
+        2 => layout.field(random.index(layout.nodes + 1), CHAIN),
         _ => layout.bucket(random.index(layout.buckets())),
     };
     let to = match random.below(4) {
@@ -181,7 +207,7 @@ fn swap(store: &mut [u8], a: usize, b: usize, len: usize) {
 }
 
 /// The header's open cells; a free node's key, value, chain and frequency; a ghost's value and frequency; a sentinel's
-/// all but its links; and what lies behind the used part.
+/// all but its links, and but chain and list of Free's; and what lies behind the used part.
 fn garble_open_bytes(store: &mut [u8], layout: Layout, random: &mut Random) {
     for cell in (0..16)
         .filter(|cell| ![CAPACITY, SMALL_LIMIT, GHOST_LIMIT].contains(cell) && !(LENGTHS..LENGTHS + 4).contains(cell))
@@ -190,7 +216,9 @@ fn garble_open_bytes(store: &mut [u8], layout: Layout, random: &mut Random) {
     }
     for node in 0..layout.nodes + SENTINELS {
         let list = store[layout.field(node, QUEUE).start];
-        let open: &[Field] = if node >= layout.nodes {
+        let open: &[Field] = if node == layout.sentinel(FREE) {
+            &[KEY, VALUE, FREQ]
+        } else if node > layout.nodes {
             &[KEY, VALUE, CHAIN, QUEUE, FREQ]
         } else if list == FREE {
             &[KEY, VALUE, CHAIN, FREQ]

@@ -12,7 +12,7 @@ impl Edit<'_> {
         number(&self.store[self.layout.field(node, field)]) as usize
     }
 
-    fn set(&mut self, node: usize, field: Field, value: usize) {
+    pub fn set(&mut self, node: usize, field: Field, value: usize) {
         let place = self.layout.field(node, field);
         let width = field.width;
         self.store[place].copy_from_slice(&value.to_le_bytes()[..width]);

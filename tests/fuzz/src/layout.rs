@@ -7,7 +7,6 @@ use std::ops::Range;
 
 pub const MOST: u64 = 1024;
 pub const HEADER: usize = 128;
-pub const NODE: usize = 24;
 pub const SENTINELS: usize = 4;
 
 /// The header's cells that hold something: the limits, then the lists' lengths. The other cells are left open.
@@ -22,20 +21,22 @@ pub const SMALL: u8 = 1;
 pub const MAIN: u8 = 2;
 pub const GHOSTS: u8 = 3;
 
-/// A field of a node: where it is in the node.
+/// A field of a node, a column of its own: how many bytes of a node the columns in front of it take, and how many this one.
 #[derive(Clone, Copy, Debug, PartialEq, Eq)]
 pub struct Field {
-    pub offset: usize,
+    pub before: usize,
     pub width: usize,
 }
 
-pub const KEY: Field = Field { offset: 0, width: 8 };
-pub const VALUE: Field = Field { offset: 8, width: 8 };
-pub const NEXT: Field = Field { offset: 16, width: 2 };
-pub const PREV: Field = Field { offset: 18, width: 2 };
-pub const CHAIN: Field = Field { offset: 20, width: 2 };
-pub const QUEUE: Field = Field { offset: 22, width: 1 };
-pub const FREQ: Field = Field { offset: 23, width: 1 };
+pub const KEY: Field = Field { before: 0, width: 8 };
+pub const VALUE: Field = Field { before: 8, width: 8 };
+pub const NEXT: Field = Field { before: 16, width: 2 };
+pub const PREV: Field = Field { before: 18, width: 2 };
+pub const CHAIN: Field = Field { before: 20, width: 2 };
+pub const QUEUE: Field = Field { before: 22, width: 1 };
+pub const FREQ: Field = Field { before: 23, width: 1 };
+/// All of them take so many bytes of a node.
+const NODE: usize = 24;
 pub const FIELDS: [Field; 7] = [KEY, VALUE, NEXT, PREV, CHAIN, QUEUE, FREQ];
 
 pub fn header_cell(cell: usize) -> Range<usize> {
@@ -54,12 +55,8 @@ pub struct Layout {
 
 impl Layout {
     pub fn field(self, node: usize, field: Field) -> Range<usize> {
-        let start = HEADER + NODE * node + field.offset;
+        let start = HEADER + field.before * (self.nodes + SENTINELS) + field.width * node;
         start..start + field.width
-    }
-
-    pub fn node(self, node: usize) -> Range<usize> {
-        HEADER + NODE * node..HEADER + NODE * (node + 1)
     }
 
     pub fn sentinel(self, list: u8) -> usize {
@@ -67,7 +64,7 @@ impl Layout {
     }
 
     pub fn buckets(self) -> usize {
-        2 * self.nodes
+        3 * self.nodes
     }
 
     pub fn bucket(self, bucket: usize) -> Range<usize> {
@@ -134,8 +131,8 @@ impl<'a> Read<'a> {
         }
     }
 
-    /// The nodes of a bucket's chain; none where it goes in a circle.
-    fn chain(&self, bucket: usize) -> Option<Vec<usize>> {
+    /// The nodes of a bucket's chain; none where it goes in a circle, or ends elsewhere than at the number of nodes.
+    pub fn chain(&self, bucket: usize) -> Option<Vec<usize>> {
         let mut nodes = Vec::new();
         let mut at = number(&self.bytes[self.layout.bucket(bucket)]) as usize;
         while at < self.layout.nodes {
@@ -145,24 +142,25 @@ impl<'a> Read<'a> {
             nodes.push(at);
             at = self.link(at, CHAIN);
         }
-        Some(nodes)
+        (at == self.layout.nodes).then_some(nodes)
     }
 
-    /// Whether the chains hold each node of the three lists in its key's bucket, no other node, and no key twice.
+    /// Whether the chains hold each node of the three lists in its key's bucket, no other node, and their keys rise; and
+    /// what ends them, Free's sentinel, leads to itself and is in no list.
     fn index_is_sound(&self, live: usize) -> bool {
+        let end = self.layout.sentinel(FREE);
         let mut chained = 0;
         for bucket in 0..self.layout.buckets() {
             let Some(nodes) = self.chain(bucket) else { return false };
-            for (n, node) in nodes.iter().enumerate() {
-                let key = self.get(*node, KEY);
-                let twice = nodes[..n].iter().any(|earlier| self.get(*earlier, KEY) == key);
-                if self.get(*node, QUEUE) == u64::from(FREE) || self.layout.bucket_of(key) != bucket || twice {
-                    return false;
-                }
+            let own = |node: &usize| {
+                self.get(*node, QUEUE) != u64::from(FREE) && self.layout.bucket_of(self.get(*node, KEY)) == bucket
+            };
+            if !nodes.iter().all(own) || !nodes.is_sorted_by(|a, b| self.get(*a, KEY) < self.get(*b, KEY)) {
+                return false;
             }
             chained += nodes.len();
         }
-        chained == live
+        chained == live && self.link(end, CHAIN) == end && self.get(end, QUEUE) == u64::from(FREE)
     }
 
     fn entry(&self, node: usize) -> Entry {

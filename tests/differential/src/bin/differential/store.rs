@@ -5,8 +5,8 @@ use original::state::{Entry, State};
 const HEADER: usize = 128;
 const NODE: usize = 24;
 const SENTINELS: usize = 4;
-/// Two bucket heads to a node, of 2 bytes each.
-const HEADS: usize = 4;
+/// Three bucket heads to a node, of 2 bytes each.
+const HEADS: usize = 6;
 
 #[derive(Clone, Copy)]
 enum List {
@@ -80,24 +80,25 @@ impl Nodes<'_> {
     }
 
     fn entry(&self, node: usize) -> Entry {
-        let at = self.at(node);
-        Entry { key: number(self.store, at), value: number(self.store, at + 8), frequency: self.store[at + 23] }
+        let [key, value] = [0, 8].map(|before| number(self.store, self.at(before, 8, node)));
+        Entry { key, value, frequency: self.store[self.at(23, 1, node)] }
     }
 
     fn next(&self, node: usize) -> usize {
-        link(self.store, self.at(node) + 16)
+        link(self.store, self.at(16, 2, node))
     }
 
     fn previous(&self, node: usize) -> usize {
-        link(self.store, self.at(node) + 18)
+        link(self.store, self.at(18, 2, node))
     }
 
     fn queue(&self, node: usize) -> usize {
-        usize::from(self.store[self.at(node) + 22])
+        usize::from(self.store[self.at(22, 1, node)])
     }
 
-    fn at(&self, node: usize) -> usize {
-        HEADER + NODE * node
+    /// A node's cell in the column of this width, behind columns of so many bytes to a node.
+    fn at(&self, before: usize, width: usize, node: usize) -> usize {
+        HEADER + before * (self.count + SENTINELS) + width * node
     }
 }
 

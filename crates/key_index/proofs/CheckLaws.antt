@@ -1,117 +1,95 @@
--- The test of an index that nobody vouches for: each chain is clean, and each live node is found by its key.
+-- The walk along a part of a chain that nobody vouches for.
 -- Assumes nothing.
-use mathlib.Core.Path.{_≡_, refl, sym, _∙_, ap}
+use mathlib.Core.Path.{_≡_, refl, _∙_, ap}
 use mathlib.Core.List.{List, [], _∷_, _++_}
-use mathlib.Core.Logic.{inl, inr, ⊎-elim}
-use Prim.Native.Nat.{ℕ, _+_, _-_, _≤_, _<_}
+use mathlib.Core.Logic.{_⊎_, inl, inr, ⊎-elim}
+use Prim.Native.Nat.{ℕ, zero, suc, _+_, _≤_, _<_}
 use native.Mathlib.Omega.{arith}
-use native.Mathlib.Decide.{ℕ-discrete}
-use lib.Dec.{eqb}
-use borrow.Author.Tests.{eq-eqb, ne-eqb}
 use lib.ListN.{length, length-append}
-use Rattle.cells.specs.Decides.{Decides}
-use Rattle.cells.proofs.DecidesLaws.{accept, refuse}
-use Rattle.key_index.specs.declared.Found.{Found}
-use Rattle.key_index.specs.declared.Found.the-variants.{At, Nothing}
-use Rattle.key_index.specs.Links.{In, Links, Whole}
-use Rattle.key_index.specs.Index.{bucketOf, Clean, Index}
-use Rattle.key_index.specs.Walks.{firstWith, FirstIs, Mine, isAt}
-use Rattle.key_index.proofs.LinksLaws.{in-append, in-cases, first, same, grow, goes-on}
-use Rattle.key_index.proofs.FewLaws.{links-few}
-use Rattle.key_index.proofs.IndexLaws.{bucket-below}
-use Rattle.key_index.proofs.FindLaws.{at-nothing, first-at, index-at, index-nothing}
+use Rattle.key_index.specs.Links.{In, Links, Rises}
+use Rattle.key_index.specs.Index.{bucketOf}
+use Rattle.key_index.specs.Walks.{Follows}
+use Rattle.key_index.specs.Test.{Strand}
+use Rattle.key_index.proofs.LinksLaws.{in-append, in-cases, first, within, grow, goes-on}
+use Rattle.key_index.proofs.DistinctLaws.{few}
+use Rattle.key_index.proofs.FewLaws.{links-below}
+use Rattle.key_index.proofs.RisesLaws.{rises-snoc, rises-from, rises-nodup}
 
--- the chain of the bucket b was walked up to h, over good nodes, with `left` steps left of n
-pub record Walked (n buckets : ℕ) (key link head : ℕ → ℕ) (live : ℕ → Type 0) (b h left : ℕ) : Type 0 where
+-- the chain from the link h₀ was walked up to h, over `count` good nodes of the bucket b
+pub record Walked (n buckets : ℕ) (key link : ℕ → ℕ) (live : ℕ → Type 0) (b h₀ h count : ℕ) : Type 0 where
   pub front : List ℕ
-  pub links : Links n link (head b) front h
+  pub links : Links n link h₀ front h
   pub sound : (y : ℕ) → In y front → live y × (bucketOf (key y) buckets ≡ b)
-  pub count : length front + left ≡ n
+  pub rising : Rises key front
+  pub low : (y : ℕ) → In y front → h < n → key y < key h
+  pub inside : h ≤ n
+  pub size : length front ≡ count
 
-module _ {n buckets : ℕ} {key link head : ℕ → ℕ} {live : ℕ → Type 0} {b : ℕ} where
-  pub walked-start : Walked n buckets key link head live b (head b) n
-  walked-start = record { front = []; links = refl; sound = λ y i. absurd i; count = omega arith }
+module _ {n buckets : ℕ} {key link : ℕ → ℕ} {live : ℕ → Type 0} {b h₀ : ℕ} where
+  pub walked-start : h₀ ≤ n → Walked n buckets key link live b h₀ h₀ 0
+  walked-start o = record { front = []; links = refl; sound = λ y i. absurd i; rising = tt; low = λ y i. absurd i; inside = o; size = refl }
 
-  module _ (h left : ℕ) (w : Walked n buckets key link head live b h left) where
-    pub walked-next : h < n → live h → bucketOf (key h) buckets ≡ b → 0 < left → Walked n buckets key link head live b (link h) (left - 1)
-    walked-next below l e some =
-        record {
-          front = w .front ++ h ∷ [];
-          links = grow n link (head b) (w .front) h (w .links) below;
-          sound = λ y i. ⊎-elim (w .sound y) (λ j. ⊎-elim (λ q. rw q (l, e)) (λ o. absurd o) j) (in-cases y (w .front) (h ∷ []) i);
-          count = omega (arith, w .count, length-append (w .front) (h ∷ []));
-        }
+  module _ (h count : ℕ) (w : Walked n buckets key link live b h₀ h count) where
+    pub walked-done : n ≤ h → (c : Strand n buckets key link live b h₀) × (length (c .whole .nodes) ≡ count)
+    walked-done o =
+        let e : h ≡ n = omega (arith, o, w .inside) in
+        (record { whole = record { nodes = w .front; links = rw e at (w .links) }; sound = w .sound; rising = w .rising }, w .size)
 
-    pub walked-done : n ≤ h → Clean n buckets key link head live b
-    walked-done o = record { whole = record { nodes = w .front; end = h; out = o; links = w .links }; sound = w .sound }
+    module _ (below : h < n) where
+      longer : Rises key (w .front ++ h ∷ [])
+      longer = rises-snoc key h (w .front) (w .rising) (λ y i. w .low y i below)
 
-    -- the node that the walk has come to is a node of the chain, if that is clean
-    module _ (below : h < n) (c : Clean n buckets key link head live b) where
-      abbrev all : Whole n link (head b)
-      all = c .whole
+      -- there are nodes left
+      pub walked-few : count < n
+      walked-few =
+          let f = few n (w .front ++ h ∷ []) (links-below n link h₀ (w .front ++ h ∷ []) (link h) (grow n link h₀ (w .front) h (w .links) below))
+          (rises-nodup key (w .front ++ h ∷ []) longer) in
+          omega (arith, f, w .size, length-append (w .front) (h ∷ []))
 
-      here : (t : List ℕ) × (all .nodes ≡ w .front ++ h ∷ t)
-      here =
-          let g = goes-on n link (head b) (w .front) (all .nodes) h (all .end) (all .out) (w .links) (all .links) in
-          let f = first n link h (g .0) (all .end) (all .out) (g .2) below in
-          (f .0, g .1 ∙ ap (λ (l : List ℕ). w .front ++ l) (f .1))
+      pub walked-next : live h → bucketOf (key h) buckets ≡ b → Follows n key (key h) (link h) → Walked n buckets key link live b h₀ (link h) (count + 1)
+      walked-next l e f =
+          record {
+            front = w .front ++ h ∷ [];
+            links = grow n link h₀ (w .front) h (w .links) below;
+            sound = λ y i. ⊎-elim (w .sound y) (λ j. ⊎-elim (λ q. rw q (l, e)) (λ o. absurd o) j) (in-cases y (w .front) (h ∷ []) i);
+            rising = longer;
+            low = λ y i o.
+                let a = f .above o in
+                ⊎-elim (λ j. let c = w .low y j below in omega arith) (λ j. ⊎-elim (λ q. rw q a) (λ k. absurd k) j) (in-cases y (w .front) (h ∷ []) i);
+            inside = f .within;
+            size = omega (arith, w .size, length-append (w .front) (h ∷ []));
+          }
 
-      pub walked-good : live h × (bucketOf (key h) buckets ≡ b)
-      walked-good = c .sound h (rw (here .1) (in-append h (w .front) (h ∷ here .0) (inr (inl refl))))
+      -- if the chain is a good one, so is the node that the walk has come to
+      module _ (c : Strand n buckets key link live b h₀) where
+        here : (t : List ℕ) × (c .whole .nodes ≡ w .front ++ h ∷ t) × Links n link (link h) t n
+        here =
+            let g = goes-on n link h₀ (w .front) (c .whole .nodes) h (w .links) (c .whole .links) in
+            let f = first n link h (g .0) (g .2) below in
+            (f .0, g .1 ∙ ap (λ (l : List ℕ). w .front ++ l) (f .1), f .2)
 
-      pub walked-long : left ≡ 0 → ⊥
-      walked-long z =
-          omega (
-            arith,
-            w .count,
-            z,
-            links-few n link (all .end) (all .out) (head b) (all .nodes) (all .links),
-            ap length (here .1),
-            length-append (w .front) (h ∷ here .0),
-          )
+        pub walked-good : live h × (bucketOf (key h) buckets ≡ b)
+        walked-good = c .sound h (rw (here .1) (in-append h (w .front) (h ∷ here .0) (inr (inl refl))))
 
--- whether a node is what a lookup finds
-module _ {n : ℕ} {key link : ℕ → ℕ} {h k : ℕ} (w : Whole n link h) where
-  -- what is found is one thing
-  pub found-once : (r r′ : Found) → FirstIs n key link k h r → FirstIs n key link k h r′ → r ≡ r′
-  found-once r r′ f g = f .first-is w ∙ sym (g .first-is w)
+        pub walked-follows : Follows n key (key h) (link h)
+        walked-follows =
+            record {
+              within = within n link (link h) (here .0) (here .2);
+              above = λ o.
+                  let f = first n link (link h) (here .0) (here .2) o in
+                  rises-from key (w .front) h (here .0) (rw (here .1) at (c .rising)) (link h) (rw (f .1) (inl refl));
+            }
 
-  pub itself : (x : ℕ) (r : Found) → FirstIs n key link k h r → Decides (FirstIs n key link k h (At x)) (isAt r x)
-  itself x Nothing f = refuse (λ g. at-nothing (found-once (At x) Nothing g f))
-  itself x (At y) f = go (ℕ-discrete y x)
-    where
-      go : Dec (y ≡ x) → Decides (FirstIs n key link k h (At x)) (eqb y x)
-      go (yes e) = rw (eq-eqb y x e) (accept (rw e at f))
-      go (no ne) = rw (ne-eqb y x ne) (refuse (λ g. let q : At y ≡ At x = found-once (At y) (At x) f g in ne (cc)))
-
--- an index is columns in which every chain is clean, and every live node is found by its key
-module _ {n buckets : ℕ} {key link head : ℕ → ℕ} {live : ℕ → Type 0} (some : 0 < buckets) where
-  pub self-of : Index n buckets key link head live → (x : ℕ) → live x → Mine n buckets key link head x
-  self-of ix x l = record { first-is = λ w. go w (firstWith key (key x) (w .nodes)) refl }
-    where
-      all : (w : Whole n link (head (bucketOf (key x) buckets))) (r : Found) → r ≡ firstWith key (key x) (w .nodes)
-          → FirstIs n key link (key x) (head (bucketOf (key x) buckets)) r
-      all w r q = record {
-        first-is = λ v.
-            q ∙ ap (firstWith key (key x))
-            (same n link (head (bucketOf (key x) buckets)) (w .nodes) (v .nodes) (w .end) (v .end) (w .out) (v .out) (w .links) (v .links));
-      }
-
-      go : (w : Whole n link (head (bucketOf (key x) buckets))) (r : Found) → r ≡ firstWith key (key x) (w .nodes) → At x ≡ firstWith key (key x) (w .nodes)
-      go w (At y) q = let f = index-at ix some (key x) y (all w (At y) q) in ap At (ix .unique x y l (f .0) (sym (f .1))) ∙ q
-      go w Nothing q = absurd (index-nothing ix some (key x) (all w Nothing q) x l refl)
-
-  pub checked : ((b : ℕ) → b < buckets → Clean n buckets key link head live b) → ((x : ℕ) → live x → Mine n buckets key link head x)
-      → Index n buckets key link head live
-  checked hs mine = record { chains = λ b h. record { clean = hs b h; full = λ y. full b y (hs b h) }; unique = unique }
-    where
-      full : (b y : ℕ) (c : Clean n buckets key link head live b) → live y → bucketOf (key y) buckets ≡ b → In y (c .whole .nodes)
-      full b y c l e =
-          let w = c .whole in
-          first-at key (key y) y (w .nodes) (mine y l .first-is (record { nodes = w .nodes; end = w .end; out = w .out; links = rw e (w .links) })) .0
-
-      unique : (x y : ℕ) → live x → live y → key x ≡ key y → x ≡ y
-      unique x y l m e =
-          let w = hs (bucketOf (key x) buckets) (bucket-below (key x) buckets some) .whole in
-          let q : At x ≡ At y = found-once w (At x) (At y) (mine x l) (rw (sym e) at (mine y m)) in
-          cc
+  -- where every live node of the bucket is followed by one, every walk comes to an end
+  module _ (on : (p : ℕ) → live p → bucketOf (key p) buckets ≡ b → Follows n key (key p) (link p)
+      × ((link p ≡ n) ⊎ (live (link p) × (bucketOf (key (link p)) buckets ≡ b))))
+      (below : (p : ℕ) → live p → p < n) where
+    pub walk-out : (fuel h count : ℕ) → n ≤ count + fuel → Walked n buckets key link live b h₀ h count → (h ≡ n) ⊎ (live h × (bucketOf (key h) buckets ≡ b))
+        → Strand n buckets key link live b h₀
+    walk-out zero h count long w s =
+        ⊎-elim (λ e. walked-done h count w (omega (arith, e)) .0) (λ g. absurd (omega (arith, walked-few h count w (below h (g .0)), long))) s
+    walk-out (suc fuel) h count long w s =
+        ⊎-elim (λ e. walked-done h count w (omega (arith, e)) .0)
+        (λ g.
+        let o = on h (g .0) (g .1) in
+        walk-out fuel (link h) (count + 1) (omega (arith, long)) (walked-next h count w (below h (g .0)) (g .0) (g .1) (o .0)) (o .1)) s

@@ -1,9 +1,15 @@
 pub mod LinksLaws
+pub mod DistinctLaws
 pub mod FewLaws
+pub mod RisesLaws
 pub mod IndexLaws
 pub mod FindLaws
+pub mod AddLaws
 pub mod RemoveLaws
+pub mod CountLaws
 pub mod CheckLaws
+pub mod VouchLaws
+pub mod ArrowLaws
 pub mod LiveLaws
 pub mod StoreLaws
 pub mod TestLaws

@@ -2,23 +2,25 @@
 -- Assumes nothing.
 use mathlib.Core.Path.{_≡_}
 use Prim.Native.Nat.{ℕ, _+_, _*_, _/_, _%_, _^_, _<_}
-use Rattle.key_index.specs.Links.{In, Whole}
+use Rattle.key_index.specs.Links.{In, Whole, Rises}
 
 -- the bucket of a key: its halves folded to 32 bits with different odd factors, scrambled, and scaled to the number of buckets
 unfoldable pub bucketOf : ℕ → ℕ → ℕ
 bucketOf k buckets = (k / 2 ^ 32 * 2246822507 + k % 2 ^ 32) % 2 ^ 32 * 2654435769 % 2 ^ 32 * buckets / 2 ^ 32
 
--- the chain of the bucket b ends, and its nodes are live and of that bucket
+-- the chain of the bucket b ends, its nodes are live and of that bucket, and their keys rise
 pub record Clean (n buckets : ℕ) (key link head : ℕ → ℕ) (live : ℕ → Type 0) (b : ℕ) : Type 0 where
   pub whole : Whole n link (head b)
   pub sound : (y : ℕ) → In y (whole .nodes) → live y × (bucketOf (key y) buckets ≡ b)
+  pub rising : Rises key (whole .nodes)
 
 -- and it has every live node of that bucket
 pub record Bucketed (n buckets : ℕ) (key link head : ℕ → ℕ) (live : ℕ → Type 0) (b : ℕ) : Type 0 where
   pub clean : Clean n buckets key link head live b
   pub full : (y : ℕ) → live y → bucketOf (key y) buckets ≡ b → In y (clean .whole .nodes)
 
--- n nodes are indexed by key: each bucket has its chain, and no two live nodes have one key
+-- n nodes are indexed by key: each bucket has its chain, no two live nodes have one key, and the end of chains leads to itself
 pub record Index (n buckets : ℕ) (key link head : ℕ → ℕ) (live : ℕ → Type 0) : Type 0 where
   pub chains : (b : ℕ) → b < buckets → Bucketed n buckets key link head live b
   pub unique : (x y : ℕ) → live x → live y → key x ≡ key y → x ≡ y
+  pub home : link n ≡ n

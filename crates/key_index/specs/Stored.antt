@@ -2,15 +2,14 @@
 -- Assumes nothing.
 use mathlib.Core.Path.{_≡_}
 use mathlib.Core.List.{List}
-use mathlib.Core.Logic.{_≢_}
+use mathlib.Core.Logic.{_⊎_, _≢_}
 use Prim.Native.Nat.{ℕ, _<_}
-use lib.ListN.{getD, replicate}
+use lib.ListN.{getD, set, replicate}
 use Rattle.nodes.specs.Nodes.{Key, Chain, Queue, Bucket, Cols, over, withColumn}
 use Rattle.nodes.specs.declared.Shape.{Shape}
 use Rattle.key_index.specs.declared.Found.{Found}
 use Rattle.key_index.specs.declared.Found.the-variants.{At, Nothing}
-use Rattle.key_index.specs.Index.{bucketOf, Clean, Index}
-use Rattle.key_index.specs.Walks.{Mine}
+use Rattle.key_index.specs.Index.{bucketOf, Index}
 
 -- a column as a function
 abbrev pub col : List ℕ → ℕ → ℕ
@@ -29,9 +28,10 @@ LiveIn z c = Live (z .room) (c Queue)
 abbrev pub IndexOf : Shape → Cols → (ℕ → Type 0) → Type 0
 IndexOf z c live = Index (z .room) (z .buckets) (col (c Key)) (col (c Chain)) (col (c Bucket)) live
 
--- the columns c index their live nodes
+-- the columns c index their live nodes, and the tag of the end of chains says free: a lookup may read of it what it reads of a node
 pub record Indexes (z : Shape) (c : Cols) : Type 0 where
   pub index : IndexOf z c (LiveIn z c)
+  pub unlisted : getD (c Queue) (z .room) 0 ≡ 0
 
 -- x is a live node with the key k
 pub record Hit (z : Shape) (c : Cols) (k x : ℕ) : Type 0 where
@@ -51,13 +51,19 @@ pub record IsFound (z : Shape) (c : Cols) (k : ℕ) (r : Found) : Type 0 where
 abbrev pub headOf : Shape → Cols → ℕ → ℕ
 headOf z c k = getD (c Bucket) (bucketOf k (z .buckets)) 0
 
--- the columns with the key k at x, which stands first in the chain of k
-unfoldable pub withFirst : Shape → Cols → ℕ → ℕ → Cols
-withFirst z c x k = over (over (over c Key x k) Chain x (headOf z c k)) Bucket (bucketOf k (z .buckets)) x
+-- the free node x may come in with the key k, which no live node has
+pub record CanJoin (z : Shape) (c : Cols) (x k : ℕ) : Type 0 where
+  pub indexes : Indexes z c
+  pub below : x < z .room
+  pub free : getD (c Queue) x 0 ≡ 0
+  pub miss : Miss z c k
 
--- the node x has come in with the key k: exactly these cells are written
+-- the node x has come in with the key k: its key, links and heads alone are changed, and they index x and the live nodes
 pub record Joins (z : Shape) (c d : Cols) (x k : ℕ) : Type 0 where
-  pub columns : d ≡ withFirst z c x k
+  pub chain : List ℕ
+  pub bucket : List ℕ
+  pub columns : d ≡ withColumn (withColumn (over c Key x k) Chain chain) Bucket bucket
+  pub index : Index (z .room) (z .buckets) (col (set (c Key) x k)) (col chain) (col bucket) (λ y. (y ≡ x) ⊎ LiveIn z c y)
 
 -- the live node x has gone out: links and heads alone are changed, and they index the other live nodes
 pub record Unchains (z : Shape) (c d : Cols) (x : ℕ) : Type 0 where
@@ -66,18 +72,10 @@ pub record Unchains (z : Shape) (c d : Cols) (x : ℕ) : Type 0 where
   pub columns : d ≡ withColumn (withColumn c Chain chain) Bucket bucket
   pub index : Index (z .room) (z .buckets) (col (c Key)) (col chain) (col bucket) (λ y. LiveIn z c y × (y ≢ x))
 
--- what a link holds where the chain ends: above every node's number in every store
-abbrev pub endMark : ℕ
-endMark = 65535
+-- every head is the end of chains: exactly the heads are written
+pub record EmptyBuckets (z : Shape) (c d : Cols) : Type 0 where
+  pub columns : d ≡ withColumn c Bucket (replicate (z .buckets) (z .room))
 
--- every chain is empty: exactly the heads are written
+-- every chain is empty, and their end leads to itself and is free: exactly the heads and the end's link and tag are written
 pub record Empties (z : Shape) (c d : Cols) : Type 0 where
-  pub columns : d ≡ withColumn c Bucket (replicate (z .buckets) endMark)
-
--- the chain of the bucket b ends, and its nodes are live and of that bucket
-pub record ChainOk (z : Shape) (c : Cols) (b : ℕ) : Type 0 where
-  pub clean : Clean (z .room) (z .buckets) (col (c Key)) (col (c Chain)) (col (c Bucket)) (LiveIn z c) b
-
--- the node x, if it is live, is found by its key
-pub record NodeOk (z : Shape) (c : Cols) (x : ℕ) : Type 0 where
-  pub found : LiveIn z c x → Mine (z .room) (z .buckets) (col (c Key)) (col (c Chain)) (col (c Bucket)) x
+  pub columns : d ≡ over (over (withColumn c Bucket (replicate (z .buckets) (z .room))) Chain (z .room) (z .room)) Queue (z .room) 0

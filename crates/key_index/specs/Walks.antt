@@ -1,15 +1,13 @@
--- What the walks along a chain answer: the first node with a key, and the node in front of another.
+-- What the walks along a chain answer: the first node with a key, the node in front of another, and the place of a key.
 -- Assumes nothing.
 use mathlib.Core.Path.{_≡_}
 use mathlib.Core.List.{List, [], _∷_, _++_}
-use mathlib.Core.Bool.{Bool, false}
 use Prim.Native.Nat.{ℕ, _≤_, _<_}
 use lib.Dec.{eqb}
 use Rattle.cells.specs.Columns.{pick}
 use Rattle.key_index.specs.declared.Found.{Found}
 use Rattle.key_index.specs.declared.Found.the-variants.{At, Nothing}
 use Rattle.key_index.specs.Links.{In, Links, Whole}
-use Rattle.key_index.specs.Index.{bucketOf}
 
 -- the first of the nodes that has the key k
 unfoldable pub firstWith : (ℕ → ℕ) → ℕ → List ℕ → Found
@@ -19,15 +17,6 @@ firstWith key k (x ∷ xs) = pick (eqb (key x) k) (At x) (firstWith key k xs)
 -- r is that node of the whole chain from h
 pub record FirstIs (n : ℕ) (key link : ℕ → ℕ) (k h : ℕ) (r : Found) : Type 0 where
   pub first-is : (w : Whole n link h) → r ≡ firstWith key k (w .nodes)
-
--- the lookup of the key of x finds x
-abbrev pub Mine : ℕ → ℕ → (ℕ → ℕ) → (ℕ → ℕ) → (ℕ → ℕ) → ℕ → Type 0
-Mine n buckets key link head x = FirstIs n key link (key x) (head (bucketOf (key x) buckets)) (At x)
-
--- whether the node x was found
-abbrev pub isAt : Found → ℕ → Bool
-isAt (At y) x = eqb y x
-isAt Nothing x = false
 
 -- the last of xs, and a where there is none
 abbrev pub last : ℕ → List ℕ → ℕ
@@ -44,8 +33,20 @@ pub record Goes (n : ℕ) (link : ℕ → ℕ) (h x : ℕ) : Type 0 where
 pub record InFront (n : ℕ) (link : ℕ → ℕ) (h x p : ℕ) : Type 0 where
   pub front : List ℕ
   pub back : List ℕ
-  pub end : ℕ
-  pub out : n ≤ end
-  pub links : Links n link (link h) (front ++ x ∷ back) end
+  pub links : Links n link (link h) (front ++ x ∷ back) n
   pub at : p ≡ last h front
   pub below : p < n
+
+-- in the chain from h the nodes up to p have keys below k, and the next has not; p is n where the first has not
+pub record Gap (n : ℕ) (key link : ℕ → ℕ) (k h p : ℕ) : Type 0 where
+  pub front : List ℕ
+  pub back : List ℕ
+  pub links : Links n link h (front ++ back) n
+  pub at : p ≡ last n front
+  pub low : (y : ℕ) → In y front → key y < k
+  pub high : (y : ℕ) (t : List ℕ) → back ≡ y ∷ t → k ≤ key y
+
+-- a link m behind a node with the key k ends the chain, or leads to a node with a larger key
+pub record Follows (n : ℕ) (key : ℕ → ℕ) (k m : ℕ) : Type 0 where
+  pub within : m ≤ n
+  pub above : m < n → k < key m

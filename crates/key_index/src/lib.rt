@@ -1,22 +1,27 @@
 // The key index of bounded size: which live node holds a key. It stands for the original's hash map,
-// in lent memory (RULES 1.3): a head for each bucket, and in each node a link to the next of its bucket.
+// in lent memory (RULES 1.3): a head for each bucket, and in each node a link to the next of its bucket,
+// in the order of their keys. The link N ends a chain; N is a sentinel that leads to itself.
 ghost use mathlib.Core.Path.{_≡_};
 ghost use Prim.Native.Nat.{_≤_, _<_};
-ghost use Rattle.cells.specs.Decides.{Decides, All};
+ghost use Rattle.cells.specs.Decides.{Decides};
 ghost use Rattle.nodes.specs.Nodes.{Field, cols, Room};
 ghost use Rattle.key_index.specs.Links.{Whole};
 ghost use Rattle.key_index.specs.Index.{bucketOf};
-ghost use Rattle.key_index.specs.Walks.{FirstIs, isAt, Goes, InFront};
-ghost use Rattle.key_index.specs.Stored.{col, LiveIn, Indexes, IsFound, Joins, Unchains, Empties, ChainOk, NodeOk};
+ghost use Rattle.key_index.specs.Walks.{FirstIs, Goes, InFront, Gap, Follows};
+ghost use Rattle.key_index.specs.Stored.{col, LiveIn, Indexes, IsFound, CanJoin, Joins, Unchains, EmptyBuckets, Empties};
+ghost use Rattle.key_index.specs.Test.{EndOk, LinkOk, StrandSays, Behind, Visits, Weighs, Counts, lives, leads, goesOn};
 use nodes::Shape;
-
-// What a link holds where a chain ends.
-const END: usize = 65535;
 
 // What a lookup finds: the node that holds the key, or that none does.
 pub enum Found {
     At(usize),
     Nothing,
+}
+
+// What the check says of nodes that it looks at: how many are as they should be, or that there is no index.
+pub enum Tally {
+    Count(usize),
+    Broken,
 }
 
 // The bucket of a key.
@@ -54,16 +59,43 @@ pub fn find(s: &[u8], z: Shape, k: u64) -> Found
     first_in(s, z, h, k)
 }
 
-// The node `x` gets the key `k`, and stands first in the key's chain.
+// The place of the key `k` in the chain whose first link is `h`: the last node with a smaller key, or
+// the end where the first node has none.
+fn place_of(s: &[u8], z: Shape, h: usize, k: u64) -> usize
+    requires { ⌜ Room z (now s) × Whole (z .room) (col (cols z (now s) Field.Chain)) h ⌝ }
+    ensures { λ r. ⌜ Gap (z .room) (col (cols z (now (s .entry)) Field.Key)) (col (cols z (now (s .entry)) Field.Chain)) k h r ⌝ }
+{
+    let mut at = h;
+    let mut p = z.room;
+    while at < z.room {
+        if k <= nodes::key_of(s, z, at) {
+            return p;
+        }
+        p = at;
+        at = nodes::chain_of(s, z, at);
+    }
+    p
+}
+
+// The free node `x` gets the key `k`, and stands in the key's chain behind the smaller keys. Its tag is
+// left for the caller to write.
 pub fn add(s: &mut [u8], z: Shape, x: usize, k: u64)
-    requires { ⌜ Room z (now s) × (x < z .room) ⌝ }
+    requires { ⌜ Room z (now s) × CanJoin z (cols z (now s)) x k ⌝ }
     ensures { λ _. ⌜ Joins z (cols z (now (s .entry))) (cols z (now (s .exit))) x k ⌝ }
 {
     let b = bucket_of_key(k, z.buckets);
     let h = nodes::bucket_of(s, z, b);
-    nodes::set_key(s, z, x, k);
-    nodes::set_chain(s, z, x, h);
-    nodes::set_bucket(s, z, b, x);
+    let p = place_of(s, z, h, k);
+    if p < z.room {
+        let next = nodes::chain_of(s, z, p);
+        nodes::set_key(s, z, x, k);
+        nodes::set_chain(s, z, x, next);
+        nodes::set_chain(s, z, p, x);
+    } else {
+        nodes::set_key(s, z, x, k);
+        nodes::set_chain(s, z, x, h);
+        nodes::set_bucket(s, z, b, x);
+    }
 }
 
 // The node in front of `x` in the chain that goes on from the node `h`.
@@ -98,104 +130,208 @@ pub fn remove(s: &mut [u8], z: Shape, x: usize)
     }
 }
 
-// Empties every chain, for a store in which no node is live.
+// Empties every bucket.
+fn empty_buckets(s: &mut [u8], z: Shape)
+    requires { ⌜ Room z (now s) ⌝ }
+    ensures { λ _. ⌜ EmptyBuckets z (cols z (now (s .entry))) (cols z (now (s .exit))) ⌝ }
+{
+    let mut b = 0;
+    while b < z.buckets {
+        nodes::set_bucket(s, z, b, z.room);
+        b += 1;
+    }
+}
+
+// Empties every chain, for a store in which no node is live, and sets up the end of chains.
 pub fn set_up(s: &mut [u8], z: Shape)
     requires { ⌜ Room z (now s) ⌝ }
     ensures { λ _. ⌜ Empties z (cols z (now (s .entry))) (cols z (now (s .exit))) ⌝ }
 {
-    let mut b = 0;
-    while b < z.buckets {
-        nodes::set_bucket(s, z, b, END);
-        b += 1;
-    }
+    empty_buckets(s, z);
+    nodes::set_chain(s, z, z.room, z.room);
+    nodes::set_queue(s, z, z.room, 0);
 }
 
-// Whether the chain of the bucket `b` ends, and has live nodes of that bucket alone. The links may
-// be anything, so the steps are counted: a chain that goes round passes more than all nodes.
-fn chain_ok(s: &[u8], z: Shape, b: usize) -> bool
-    requires { ⌜ Room z (now s) × (b < z .buckets) ⌝ }
-    ensures { λ r. ⌜ Decides (ChainOk z (cols z (now (s .entry))) b) r ⌝ }
-{
-    let mut at = nodes::bucket_of(s, z, b);
-    let mut left = z.room;
-    while at < z.room {
-        if left == 0 {
-            return false;
-        }
-        if nodes::queue_of(s, z, at) == 0 {
-            return false;
-        }
-        if bucket_of_key(nodes::key_of(s, z, at), z.buckets) != b {
-            return false;
-        }
-        at = nodes::chain_of(s, z, at);
-        left -= 1;
-    }
-    true
-}
-
-// Whether every chain is so.
-fn chains_ok(s: &[u8], z: Shape) -> bool
+// Whether the end of chains leads to itself, and its tag says free.
+fn end_ok(s: &[u8], z: Shape) -> bool
     requires { ⌜ Room z (now s) ⌝ }
-    ensures { λ r. ⌜ Decides (All (ChainOk z (cols z (now (s .entry)))) (z .buckets)) r ⌝ }
+    ensures { λ r. ⌜ Decides (EndOk z (cols z (now (s .entry)))) r ⌝ }
 {
-    let mut b = 0;
-    while b < z.buckets {
-        if !chain_ok(s, z, b) {
-            return false;
-        }
-        b += 1;
+    if nodes::chain_of(s, z, z.room) != z.room {
+        return false;
     }
-    true
+    nodes::queue_of(s, z, z.room) == 0
 }
 
-// Whether a lookup found the node `x`.
-fn is_at(found: Found, x: usize) -> bool
-    ensures { λ r. ⌜ r ≡ isAt found x ⌝ }
+// Whether a link `m` behind a node with the key `k` ends the chain, or leads to a larger key.
+fn follows(s: &[u8], z: Shape, k: u64, m: usize) -> bool
+    requires { ⌜ Room z (now s) ⌝ }
+    ensures { λ r. ⌜ Decides (Follows (z .room) (col (cols z (now (s .entry)) Field.Key)) k m) r ⌝ }
 {
-    match found {
-        Found::At(y) => y == x,
-        Found::Nothing => false,
+    if m < z.room {
+        return k < nodes::key_of(s, z, m);
     }
+    m == z.room
 }
 
-// Whether a node is free, or is found by its key.
-fn node_ok(s: &[u8], z: Shape, x: usize) -> bool
-    requires { ⌜ Room z (now s) × (x < z .room) × All (ChainOk z (cols z (now s))) (z .buckets) ⌝ }
-    ensures { λ r. ⌜ Decides (NodeOk z (cols z (now (s .entry))) x) r ⌝ }
+// Whether a node may stand in the chain of the bucket `b`: it is live and of that bucket, and its link
+// ends the chain or leads to a larger key.
+fn link_ok(s: &[u8], z: Shape, b: usize, x: usize) -> bool
+    requires { ⌜ Room z (now s) × (x < z .room) ⌝ }
+    ensures { λ r. ⌜ Decides (LinkOk z (cols z (now (s .entry))) b x) r ⌝ }
 {
     if nodes::queue_of(s, z, x) == 0 {
-        return true;
+        return false;
+    }
+    let k = nodes::key_of(s, z, x);
+    if bucket_of_key(k, z.buckets) != b {
+        return false;
+    }
+    let next = nodes::chain_of(s, z, x);
+    follows(s, z, k, next)
+}
+
+// Walks the chain from the node `h` on, which is to be one of the bucket `b`. The links may be anything;
+// it ends because the keys rise, so that no node is passed twice.
+fn walk(s: &[u8], z: Shape, b: usize, h: usize) -> Tally
+    requires { ⌜ Room z (now s) × (h < z .room) ⌝ }
+    ensures { λ r. ⌜ StrandSays z (cols z (now (s .entry))) b h r ⌝ }
+{
+    let mut at = h;
+    let mut count = 0;
+    while at < z.room {
+        if !link_ok(s, z, b, at) {
+            return Tally::Broken;
+        }
+        at = nodes::chain_of(s, z, at);
+        count += 1;
+    }
+    Tally::Count(count)
+}
+
+// Whether `h` is a live node with a key below `k`, and `x` is behind it.
+fn is_behind(s: &[u8], z: Shape, h: usize, x: usize, k: u64) -> bool
+    requires { ⌜ Room z (now s) ⌝ }
+    ensures { λ r. ⌜ Decides (Behind z (cols z (now (s .entry))) h x k) r ⌝ }
+{
+    if z.room <= h {
+        return false;
+    }
+    if nodes::queue_of(s, z, h) == 0 {
+        return false;
+    }
+    if nodes::chain_of(s, z, h) != x {
+        return false;
+    }
+    nodes::key_of(s, z, h) < k
+}
+
+// How many nodes a node vouches for: the first of a chain for itself, and the second for itself and for
+// all behind it, which are walked. Few chains have more than two nodes.
+fn visit(s: &[u8], z: Shape, x: usize) -> Tally
+    requires { ⌜ Room z (now s) × (x < z .room) ⌝ }
+    ensures { λ r. ⌜ Visits z (cols z (now (s .entry))) x r ⌝ }
+{
+    if nodes::queue_of(s, z, x) == 0 {
+        return Tally::Count(0);
     }
     let k = nodes::key_of(s, z, x);
     let b = bucket_of_key(k, z.buckets);
     let h = nodes::bucket_of(s, z, b);
-    is_at(first_in(s, z, h, k), x)
+    if h == x {
+        return Tally::Count(1);
+    }
+    if !is_behind(s, z, h, x, k) {
+        return Tally::Count(0);
+    }
+    walk(s, z, b, x)
 }
 
-// Whether every node is so.
-fn nodes_ok(s: &[u8], z: Shape) -> bool
-    requires { ⌜ Room z (now s) × All (ChainOk z (cols z (now s))) (z .buckets) ⌝ }
-    ensures { λ r. ⌜ Decides (All (NodeOk z (cols z (now (s .entry)))) (z .room)) r ⌝ }
+// 1 for a live node, and 0 for a free one.
+fn live_at(s: &[u8], z: Shape, x: usize) -> usize
+    requires { ⌜ Room z (now s) × (x < z .room) ⌝ }
+    ensures { λ r. ⌜ Weighs (lives (cols z (now (s .entry)))) x r ⌝ }
+{
+    if nodes::queue_of(s, z, x) == 0 {
+        return 0;
+    }
+    1
+}
+
+// 1 for a head that leads to something.
+fn head_at(s: &[u8], z: Shape, b: usize) -> usize
+    requires { ⌜ Room z (now s) × (b < z .buckets) ⌝ }
+    ensures { λ r. ⌜ Weighs (leads z (cols z (now (s .entry)))) b r ⌝ }
+{
+    if nodes::bucket_of(s, z, b) == z.room {
+        return 0;
+    }
+    1
+}
+
+// How many heads do.
+fn count_heads(s: &[u8], z: Shape) -> usize
+    requires { ⌜ Room z (now s) ⌝ }
+    ensures { λ r. ⌜ Counts (leads z (cols z (now (s .entry)))) (z .buckets) r ⌝ }
+{
+    let mut b = 0;
+    let mut count = 0;
+    while b < z.buckets {
+        count += head_at(s, z, b);
+        b += 1;
+    }
+    count
+}
+
+// 1 for a live node whose link leads to something.
+fn link_at(s: &[u8], z: Shape, x: usize) -> usize
+    requires { ⌜ Room z (now s) × (x < z .room) ⌝ }
+    ensures { λ r. ⌜ Weighs (goesOn z (cols z (now (s .entry)))) x r ⌝ }
+{
+    if nodes::queue_of(s, z, x) == 0 {
+        return 0;
+    }
+    if nodes::chain_of(s, z, x) == z.room {
+        return 0;
+    }
+    1
+}
+
+// Whether the nodes stand where `heads` heads should lead. Each node is visited once, and walked over at
+// most once. As many heads and links of live nodes lead on as there are live nodes, and each live node is
+// vouched for, that is, one of them leads to it as it should: so they lead to nothing else.
+fn nodes_stand(s: &[u8], z: Shape, heads: usize) -> bool
+    requires { ⌜ Room z (now s) × EndOk z (cols z (now s)) × Counts (leads z (cols z (now s))) (z .buckets) heads ⌝ }
+    ensures { λ r. ⌜ Decides (Indexes z (cols z (now (s .entry)))) r ⌝ }
 {
     let mut x = 0;
+    let mut sum = 0;
+    let mut live = 0;
+    let mut links = 0;
     while x < z.room {
-        if !node_ok(s, z, x) {
+        let tally = visit(s, z, x);
+        let Tally::Count(m) = tally else {
             return false;
-        }
+        };
+        sum += m;
+        live += live_at(s, z, x);
+        links += link_at(s, z, x);
         x += 1;
     }
-    true
+    if heads + links != live {
+        return false;
+    }
+    sum == live
 }
 
-// Whether a store that nobody vouches for indexes its live nodes. A chain is walked once for its own
-// sake, and once for each of its nodes, up to that node.
+// Whether a store that nobody vouches for indexes its live nodes.
 pub fn check_index(s: &[u8], z: Shape) -> bool
     requires { ⌜ Room z (now s) ⌝ }
     ensures { λ r. ⌜ Decides (Indexes z (cols z (now (s .entry)))) r ⌝ }
 {
-    if !chains_ok(s, z) {
+    if !end_ok(s, z) {
         return false;
     }
-    nodes_ok(s, z)
+    let heads = count_heads(s, z);
+    nodes_stand(s, z, heads)
 }

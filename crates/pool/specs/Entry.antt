@@ -5,12 +5,10 @@ use mathlib.Core.List.{List}
 use Prim.Native.Nat.{ℕ}
 use Rattle.nodes.specs.Nodes.{Value, Freq, Cols, cols, over}
 use Rattle.nodes.specs.declared.Shape.{Shape}
-use Rattle.key_index.specs.Stored.{withFirst}
+use Rattle.key_index.specs.Stored.{Joins}
 
--- the columns with the node x so
-unfoldable pub entered : Shape → Cols → ℕ → ℕ → ℕ → Cols
-entered z c x k v = over (over (withFirst z c x k) Value x v) Freq x 0
-
--- the store s′ is s with the node x so
+-- the store s′ is s with the node x so; `indexed` are the columns when the index has got the key
 pub record Entered (z : Shape) (s s′ : List ℕ) (x k v : ℕ) : Type 0 where
-  pub columns : cols z s′ ≡ entered z (cols z s) x k v
+  pub indexed : Cols
+  pub joins : Joins z (cols z s) indexed x k
+  pub columns : cols z s′ ≡ over (over indexed Value x v) Freq x 0

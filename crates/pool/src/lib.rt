@@ -1,9 +1,9 @@
 // The slot pool with its free list (RULES 1.3): the lists and the key index joined. Every node is in
 // one of the four lists at all times, so a freed slot is used again, and those that are not free are
 // found by their keys. These are all the ways in which a node changes its list.
-ghost use Prim.Native.Nat.{_<_};
 ghost use Rattle.cells.specs.Decides.{Decides};
-ghost use Rattle.nodes.specs.Nodes.{Room};
+ghost use Rattle.nodes.specs.Nodes.{cols, Room};
+ghost use Rattle.key_index.specs.Stored.{CanJoin};
 ghost use Rattle.pool.specs.Carries.{Pooled, CanMove, Moved, CanRelease, Released, CanFill, Filled, PoolSetUp};
 ghost use Rattle.pool.specs.Relist.{CanRelist, Relisted};
 ghost use Rattle.pool.specs.Entry.{Entered};
@@ -38,9 +38,9 @@ pub fn release(s: &mut [u8], z: Shape, t: usize, x: usize)
     relist(s, z, t, lists::FREE, x);
 }
 
-// Writes what node x is to hold. What it held as a free node is of no account.
+// Writes what the free node x is to hold. What it held before is of no account.
 fn enter(s: &mut [u8], z: Shape, x: usize, k: u64, v: u64)
-    requires { ⌜ Room z (now s) × (x < z .room) ⌝ }
+    requires { ⌜ Room z (now s) × CanJoin z (cols z (now s)) x k ⌝ }
     ensures { λ _. ⌜ Entered z (now (s .entry)) (now (s .exit)) x k v ⌝ }
 {
     key_index::add(s, z, x, k);

@@ -2,11 +2,11 @@
 -- Assumes nothing.
 use borrow.Author.Needs.{needs}
 use Rattle.pool.specs.Relist.{CanRelist}
-use Rattle.pool.proofs.FillLaws.{fill-node, fill-relist, filled}
+use Rattle.pool.proofs.FillLaws.{fill-joins, fill-relist, filled}
 use Rattle.pool.proofs.fill.Statement.{statement}
 use Rattle.pool.proofs.fill.Tie as tie
 
-ruleset laws = (needs, fill-node, fill-relist, filled)
+ruleset laws = (needs, fill-joins, fill-relist, filled)
 
 -- said in the function's own terms, in which `search` is quick
 relist-requires : tie.Need-relist-requires
@@ -18,4 +18,5 @@ relist-requires c κs =
     (search needs, g)
 
 pub fill-spec : {M : Type 1} → statement M
-fill-spec = tie.close (tie.spec (λ c κs. search laws) (λ c κs. search laws) relist-requires (λ c. search laws) (λ c. search laws))
+fill-spec =
+    tie.close (tie.spec (λ c κs. search laws) (λ c κs. search laws) relist-requires (λ c. search laws) (λ c. search laws))

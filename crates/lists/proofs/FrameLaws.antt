@@ -7,10 +7,10 @@ use Prim.Native.Nat.{ℕ, _+_, _<_}
 use native.Mathlib.Omega.{arith}
 use lib.ListN.{length, getD, set}
 use lib.Seq.{getD-set-other}
-use Rattle.nodes.specs.Nodes.{Field, Head, Key, Value, Next, Prev, Chain, Queue, Freq, Bucket, Rest, Cols, cols, over, withColumn}
+use Rattle.nodes.specs.Nodes.{Field, Head, Key, Value, Next, Prev, Chain, Queue, Freq, Bucket, Rest, Cols, over, withColumn}
 use Rattle.nodes.specs.declared.Shape.{Shape}
 use Rattle.nodes.proofs.OverLaws.{Other, with-other, over-with}
-use Rattle.lists.specs.Lists.{many, Lists, Untouched, unlink, link, detached, attached, Detached, Attached}
+use Rattle.lists.specs.Lists.{many, Lists, Untouched, unlink, link, detached, attached}
 
 -- ---- what is no part of the lists
 
@@ -75,14 +75,6 @@ module _ (c : Cols) {t : ℕ} (tK : t < 4) (x : ℕ) where
   pub attached-same : (z : Shape) → Untouched c (attached z c t x)
   unfolding attached link over
   attached-same z = same-but tK refl refl refl refl refl refl (attached-heads c t x z)
-
--- the same of stores
-module _ {z : Shape} {s s′ : List ℕ} {t x : ℕ} (tK : t < 4) where
-  pub took-same : Detached z s s′ t x → Untouched (cols z s) (cols z s′)
-  took-same w = rw (w .columns) (detached-same (cols z s) tK x)
-
-  pub attach-same : Attached z s s′ t x → Untouched (cols z s) (cols z s′)
-  attach-same w = rw (w .columns) (attached-same (cols z s) tK x z)
 
 -- ---- what leaves the lists alone
 

@@ -4,6 +4,7 @@ pub mod RingLaws
 pub mod PoolLaws
 pub mod StoreLaws
 pub mod ListsLaws
+pub mod FrontLaws
 pub mod FrameLaws
 pub mod CheckLaws
 pub mod FreshLaws

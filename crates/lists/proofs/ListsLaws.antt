@@ -12,7 +12,7 @@ use Rattle.nodes.specs.Nodes.{Head, Next, Prev, Queue, Cols, cols, over, GetsFi
 use Rattle.nodes.specs.declared.Shape.{Shape}
 use Rattle.lists.specs.Ring.{First, Last, Ring, Tagged}
 use Rattle.lists.specs.Pool.{Absent, upd, view}
-use Rattle.lists.specs.Lists.{many, Lists, inAll, unlink, link, detached, attached, CanDetach, Detached, CanAttach, Attached}
+use Rattle.lists.specs.Lists.{many, Lists, inAll, unlink, link, detached, attached, CanDetach, Detached, CanAttach}
 use Rattle.lists.proofs.RingLaws.{attachNx, attachPv, detachNx, detachPv, Member, first-back, ring-first, ring-last}
 use Rattle.lists.proofs.PoolLaws.{upd-all, pool-member, pool-tag, pool-elsewhere, pool-taken, pool-gone, pool-pushed, pool-view, cat}
 use Rattle.lists.proofs.PoolLaws.{pool-full, ring-shorter}
@@ -53,7 +53,7 @@ module _ {z : Shape} {c : Cols} {f : ℕ → List ℕ} (r : Lists z c f) where
     pub lists-once : Out x a × Out x b
     lists-once = (lists-member .not-before, lists-member .not-after)
 
-    lists-some : many c t ≡ suc (length (a ++ b))
+    pub lists-some : many c t ≡ suc (length (a ++ b))
     lists-some = r .counts t tK ∙ ap length e ∙ omega (arith, length-append a (x ∷ b), length-append a b)
 
     pub lists-take : Lists z (detached c t x) (upd f t (a ++ b))
@@ -89,6 +89,11 @@ module _ {z : Shape} {c : Cols} {f : ℕ → List ℕ} (r : Lists z c f) where
 
     pub lists-ring : Ring (z .room) (c Next) (c Prev) (z .room + t) (f t)
     lists-ring = r .pool .rings t tK
+
+    -- the sentinel's next is in reach
+    pub lists-first-in : getD (c Next) (z .room + t) 0 < z .room + 4
+    lists-first-in =
+        let k : getD (c Next) (z .room + t) 0 ≤ z .room + t = first-back (z .room) (c Next) (c Prev) (z .room + t) (f t) lists-ring .1 in omega arith
 
     pub lists-view : view (z .room) (c Next) t ≡ f t
     lists-view = pool-view (z .room) 4 (c Next) (c Prev) (c Queue) f (r .pool) t tK
@@ -150,12 +155,10 @@ module _ {z : Shape} {s : List ℕ} {f : ℕ → List ℕ} (r : Lists z (cols z 
 
   pub can-push : {x : ℕ} → Absent 4 f x → x < z .room → CanAttach z s t x
   can-push {x} o b =
-      let k : (getD (cols z s Prev) (getD (cols z s Next) (z .room + t) 0) 0 ≡ z .room + t) × (getD (cols z s Next) (z .room + t) 0 ≤ z .room + t) =
-      first-back (z .room) (cols z s Next) (cols z s Prev) (z .room + t) (f t) (lists-ring r tK) in
       record {
         list = tK;
         node = b;
-        next-in = omega arith;
+        next-in = lists-first-in r tK;
         space = omega (arith, r .counts t tK, ring-shorter (z .room) (cols z s Next) (cols z s Prev) (z .room + t) (f t) (lists-ring r tK) x b (o t tK));
       }
 
@@ -163,12 +166,9 @@ module _ {z : Shape} {s : List ℕ} {f : ℕ → List ℕ} (r : Lists z (cols z 
   pub read-length : {n : ℕ} → GetsField z s Head (4 + t) n → n ≡ length (f t)
   read-length a = a .value ∙ r .counts t tK
 
-  -- take and push, of stores
+  -- take, of stores
   pub lists-took : {s′ : List ℕ} {x : ℕ} → Detached z s s′ t x → (a b : List ℕ) → f t ≡ a ++ x ∷ b → Lists z (cols z s′) (upd f t (a ++ b))
   lists-took {s′} {x} w a b e = rw (w .columns) (lists-take r tK a x b e)
-
-  pub lists-pushed : {s′ : List ℕ} {x : ℕ} → Attached z s s′ t x → Absent 4 f x → x < z .room → Lists z (cols z s′) (upd f t (x ∷ f t))
-  lists-pushed w o b = rw (w .columns) (lists-push r o b tK)
 
 -- an end is a member
 pub first-among : {x : ℕ} {l : List ℕ} → First x l → Among x l

@@ -6,7 +6,8 @@ use Prim.Native.Nat.{ℕ, _+_, _-_}
 use native.Mathlib.Omega.{arith}
 use Rattle.nodes.specs.Nodes.{Head, Next, Prev, Queue, over, SetsField, GetsField}
 use Rattle.nodes.specs.declared.Shape.{Shape}
-use Rattle.lists.specs.Lists.{unlink, link, detached, attached, CanUnlink, Unlinked, CanLink, Linked, CanDetach, Detached, CanAttach, Attached}
+use Rattle.lists.specs.Lists.{unlink, link, detached, attached, fronted, CanUnlink, Unlinked, CanLink, Linked, CanDetach, Detached, CanAttach, Attached}
+use Rattle.lists.specs.Lists.{CanFront, ToFront}
 
 module _ {z : Shape} where
   pub unlinked : {s s₁ s₂ : List ℕ} {x p n : ℕ} → GetsField z s Next x n → GetsField z s Prev x p → SetsField z s s₁ Next p n
@@ -36,3 +37,13 @@ module _ {z : Shape} where
       → SetsField z s₂ s₃ Head (4 + t) (n + 1) → Attached z s s₃ t x
   unfolding attached
   attach-done a b d e = record { columns = e .columns ∙ rw (d .columns, b .columns, a .value) }
+
+  pub front-unlink : {s : List ℕ} {t x : ℕ} → CanFront z s t x → CanUnlink z s x
+  front-unlink k = record { node = omega (arith, k .node); next-in = k .next-in; prev-in = k .prev-in }
+
+  pub front-link : {s s₁ : List ℕ} {t x : ℕ} → CanFront z s t x → Unlinked z s s₁ x → CanLink z s₁ (z .room + t) x
+  front-link k w = record { head = omega (arith, k .list); node = omega (arith, k .node); next-in = rw (w .columns) (k .first-in) }
+
+  pub front-done : {s s₁ s₂ : List ℕ} {t x : ℕ} → Unlinked z s s₁ x → Linked z s₁ s₂ (z .room + t) x → ToFront z s s₂ t x
+  unfolding fronted
+  front-done a b = record { columns = b .columns ∙ rw (a .columns) }

@@ -52,6 +52,10 @@ detached c t x = over (unlink c x) Head (4 + t) (many c t - 1)
 unfoldable pub attached : Shape → Cols → ℕ → ℕ → Cols
 attached z c t x = over (link (over c Queue x t) (z .room + t) x) Head (4 + t) (many c t + 1)
 
+-- node x of list t at the head of it
+unfoldable pub fronted : Shape → Cols → ℕ → ℕ → Cols
+fronted z c t x = link (unlink c x) (z .room + t) x
+
 -- ---- contracts: what a function asks, so that it stays within the columns, and the columns that it leaves
 
 -- x and its neighbours are in reach
@@ -96,3 +100,15 @@ pub record CanAttach (z : Shape) (s : List ℕ) (t x : ℕ) : Type 0 where
 -- the store s′ is s with x at the head of list t
 pub record Attached (z : Shape) (s s′ : List ℕ) (t x : ℕ) : Type 0 where
   pub columns : cols z s′ ≡ attached z (cols z s) t x
+
+-- x, its neighbours and the head of list t are in reach, the head when x is out of its ring
+pub record CanFront (z : Shape) (s : List ℕ) (t x : ℕ) : Type 0 where
+  pub list : t < 4
+  pub node : x < z .room
+  pub next-in : getD (cols z s Next) x 0 < z .room + 4
+  pub prev-in : getD (cols z s Prev) x 0 < z .room + 4
+  pub first-in : getD (unlink (cols z s) x Next) (z .room + t) 0 < z .room + 4
+
+-- the store s′ is s with x at the head of list t, in which it was
+pub record ToFront (z : Shape) (s s′ : List ℕ) (t x : ℕ) : Type 0 where
+  pub columns : cols z s′ ≡ fronted z (cols z s) t x

@@ -7,7 +7,7 @@ ghost use Rattle.cells.specs.Decides.{Decides, All};
 ghost use Rattle.nodes.specs.Nodes.{Field, cols, Room, GetsField};
 ghost use Rattle.lists.specs.Check.{Listed, Counted, StepOk, Home, ListOk};
 ghost use Rattle.lists.specs.Fresh.{allFree, Fresh, EmptyList};
-ghost use Rattle.lists.specs.Lists.{Lists, CanUnlink, Unlinked, CanLink, Linked, CanDetach, Detached, CanAttach, Attached};
+ghost use Rattle.lists.specs.Lists.{Lists, CanUnlink, Unlinked, CanLink, Linked, CanDetach, Detached, CanAttach, Attached, CanFront, ToFront};
 use nodes::Shape;
 
 // The numbers of the lists.
@@ -92,6 +92,17 @@ pub fn attach(s: &mut [u8], z: Shape, t: usize, x: usize)
     nodes::set_queue(s, z, x, t);
     link(s, z, z.room + t, x);
     nodes::set_head(s, z, LENGTHS + t, n + 1);
+}
+
+// Puts node x of list t at the head of it. The list's length and the node's tag are what they were, so
+// the links alone are written.
+pub fn to_front(s: &mut [u8], z: Shape, t: usize, x: usize)
+    requires { ⌜ Room z (now s) ⌝ }
+    requires { ⌜ CanFront z (now s) t x ⌝ }
+    ensures { λ _. ⌜ ToFront z (now (s .entry)) (now (s .exit)) t x ⌝ }
+{
+    unlink(s, z, x);
+    link(s, z, z.room + t, x);
 }
 
 // Whether the lengths in the header come to the number of nodes.

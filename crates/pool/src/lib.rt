@@ -9,14 +9,19 @@ ghost use Rattle.pool.specs.Relist.{CanRelist, Relisted};
 ghost use Rattle.pool.specs.Entry.{Entered};
 use nodes::Shape;
 
-// Takes node x out of list t and puts it at the head of list u. The index is left to the callers.
+// Takes node x out of list t and puts it at the head of list u. Where both are one list, its links alone
+// are written. The index is left to the callers.
 fn relist(s: &mut [u8], z: Shape, t: usize, u: usize, x: usize)
     requires { ⌜ Room z (now s) ⌝ }
     requires { ⌜ CanRelist z (now s) t u x ⌝ }
     ensures { λ _. ⌜ Relisted z (now (s .entry)) (now (s .exit)) t u x ⌝ }
 {
-    lists::detach(s, z, t, x);
-    lists::attach(s, z, u, x);
+    if t == u {
+        lists::to_front(s, z, t, x);
+    } else {
+        lists::detach(s, z, t, x);
+        lists::attach(s, z, u, x);
+    }
 }
 
 // Moves node x from list t to the head of list u, which may be the same. It keeps its entry.

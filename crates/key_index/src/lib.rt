@@ -7,9 +7,9 @@ ghost use Rattle.cells.specs.Decides.{Decides};
 ghost use Rattle.nodes.specs.Nodes.{Field, cols, Room};
 ghost use Rattle.key_index.specs.Links.{Whole};
 ghost use Rattle.key_index.specs.Index.{bucketOf};
-ghost use Rattle.key_index.specs.Walks.{FirstIs, Goes, InFront, Gap, Follows};
+ghost use Rattle.key_index.specs.Walks.{FirstIs, Goes, InFront, Gap, LeadsUp};
 ghost use Rattle.key_index.specs.Stored.{col, LiveIn, Indexes, IsFound, CanJoin, Joins, Unchains, EmptyBuckets, Empties};
-ghost use Rattle.key_index.specs.Test.{EndOk, LinkOk, StrandSays, Behind, Visits, Weighs, Counts, lives, leads, goesOn};
+ghost use Rattle.key_index.specs.Test.{EndOk, LinkOk, WalkSays, Behind, Visits, Weighs, Counts, lives, leads, goesOn};
 use nodes::Shape;
 
 // What a lookup finds: the node that holds the key, or that none does.
@@ -19,7 +19,7 @@ pub enum Found {
 }
 
 // What the check says of nodes that it looks at: how many are as they should be, or that there is no index.
-pub enum Tally {
+enum Census {
     Count(usize),
     Broken,
 }
@@ -164,9 +164,9 @@ fn end_ok(s: &[u8], z: Shape) -> bool
 }
 
 // Whether a link `m` behind a node with the key `k` ends the chain, or leads to a larger key.
-fn follows(s: &[u8], z: Shape, k: u64, m: usize) -> bool
+fn leads_up(s: &[u8], z: Shape, k: u64, m: usize) -> bool
     requires { ⌜ Room z (now s) ⌝ }
-    ensures { λ r. ⌜ Decides (Follows (z .room) (col (cols z (now (s .entry)) Field.Key)) k m) r ⌝ }
+    ensures { λ r. ⌜ Decides (LeadsUp (z .room) (col (cols z (now (s .entry)) Field.Key)) k m) r ⌝ }
 {
     if m < z.room {
         return k < nodes::key_of(s, z, m);
@@ -188,25 +188,25 @@ fn link_ok(s: &[u8], z: Shape, b: usize, x: usize) -> bool
         return false;
     }
     let next = nodes::chain_of(s, z, x);
-    follows(s, z, k, next)
+    leads_up(s, z, k, next)
 }
 
 // Walks the chain from the node `h` on, which is to be one of the bucket `b`. The links may be anything;
 // it ends because the keys rise, so that no node is passed twice.
-fn walk(s: &[u8], z: Shape, b: usize, h: usize) -> Tally
+fn walk(s: &[u8], z: Shape, b: usize, h: usize) -> Census
     requires { ⌜ Room z (now s) × (h < z .room) ⌝ }
-    ensures { λ r. ⌜ StrandSays z (cols z (now (s .entry))) b h r ⌝ }
+    ensures { λ r. ⌜ WalkSays z (cols z (now (s .entry))) b h r ⌝ }
 {
     let mut at = h;
     let mut count = 0;
     while at < z.room {
         if !link_ok(s, z, b, at) {
-            return Tally::Broken;
+            return Census::Broken;
         }
         at = nodes::chain_of(s, z, at);
         count += 1;
     }
-    Tally::Count(count)
+    Census::Count(count)
 }
 
 // Whether `h` is a live node with a key below `k`, and `x` is behind it.
@@ -228,21 +228,21 @@ fn is_behind(s: &[u8], z: Shape, h: usize, x: usize, k: u64) -> bool
 
 // How many nodes a node vouches for: the first of a chain for itself, and the second for itself and for
 // all behind it, which are walked. Few chains have more than two nodes.
-fn visit(s: &[u8], z: Shape, x: usize) -> Tally
+fn visit(s: &[u8], z: Shape, x: usize) -> Census
     requires { ⌜ Room z (now s) × (x < z .room) ⌝ }
     ensures { λ r. ⌜ Visits z (cols z (now (s .entry))) x r ⌝ }
 {
     if nodes::queue_of(s, z, x) == 0 {
-        return Tally::Count(0);
+        return Census::Count(0);
     }
     let k = nodes::key_of(s, z, x);
     let b = bucket_of_key(k, z.buckets);
     let h = nodes::bucket_of(s, z, b);
     if h == x {
-        return Tally::Count(1);
+        return Census::Count(1);
     }
     if !is_behind(s, z, h, x, k) {
-        return Tally::Count(0);
+        return Census::Count(0);
     }
     walk(s, z, b, x)
 }
@@ -309,8 +309,8 @@ fn nodes_stand(s: &[u8], z: Shape, heads: usize) -> bool
     let mut live = 0;
     let mut links = 0;
     while x < z.room {
-        let tally = visit(s, z, x);
-        let Tally::Count(m) = tally else {
+        let census = visit(s, z, x);
+        let Census::Count(m) = census else {
             return false;
         };
         sum += m;

@@ -137,7 +137,8 @@ module _ (z : Shape) (s : List ℕ) {x q : ℕ} (tag : GetsField z s Queue x q) 
   pub visit-free : q ≡ 0 → Visits z (cols z s) x (Count 0)
   visit-free e = record { says = inr (inr (λ f. omega (arith, f .lives .tagged, tag .value, e), λ f. omega (arith, f .lives .tagged, tag .value, e), refl)) }
 
-  module _ (below : x < z .room) (live : q ≡ 0 → ⊥) {k b h : ℕ} (is : GetsField z s Key x k) (eb : b ≡ bucketOf k (z .buckets)) (eh : GetsField z s Bucket b h) where
+  module _ (below : x < z .room) (live : q ≡ 0 → ⊥) {k b h : ℕ} (is : GetsField z s Key x k) (eb : b ≡ bucketOf k (z .buckets))
+      (eh : GetsField z s Bucket b h) where
     lively : LiveIn z (cols z s) x
     lively = record { below = below; tagged = omega (arith, tag .value, live) }
 

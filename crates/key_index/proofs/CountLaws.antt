@@ -11,7 +11,7 @@ use Rattle.cells.proofs.MembersLaws.{Nodup}
 use Rattle.nodes.specs.Nodes.{Chain, Queue, Bucket, Cols, cols, GetsField}
 use Rattle.nodes.specs.declared.Shape.{Shape}
 use Rattle.key_index.specs.Links.{In}
-use Rattle.key_index.specs.Test.{oneIf, countTo, Weighs, Counts, differ, given, lives, leads, goesOn}
+use Rattle.key_index.specs.Test.{oneIf, countTo, Weighs, Counts, differ, given, itself, lives, leads, goesOn}
 use Rattle.key_index.proofs.DistinctLaws.{out-of}
 
 abbrev keep : ℕ → ℕ → List ℕ → List ℕ
@@ -73,12 +73,14 @@ weighs-no e = record { number = rw e; small = omega arith }
 weighs-yes : {t : ℕ → ℕ} {x : ℕ} → (t x ≡ 0 → ⊥) → Weighs t x 1
 weighs-yes {t} {x} f = record { number = above (t x) f; small = omega arith }
 
-module _ (z : Shape) (s : List ℕ) {x t : ℕ} (tag : GetsField z s Queue x t) where
-  pub weighs-free : t ≡ 0 → Weighs (lives (cols z s)) x 0
-  weighs-free e = weighs-no (sym (tag .value) ∙ e)
+pub tag-free : {t : ℕ} → t ≡ 0 → Weighs itself t 0
+tag-free e = weighs-no e
 
-  pub weighs-live : (t ≡ 0 → ⊥) → Weighs (lives (cols z s)) x 1
-  weighs-live e = weighs-yes (λ q. e (tag .value ∙ q))
+pub tag-live : {t : ℕ} → (t ≡ 0 → ⊥) → Weighs itself t 1
+tag-live e = weighs-yes e
+
+pub weighs-tag : (z : Shape) (s : List ℕ) {x t r : ℕ} → GetsField z s Queue x t → Weighs itself t r → Weighs (lives (cols z s)) x r
+weighs-tag z s tag w = record { number = w .number ∙ ap oneIf (tag .value); small = w .small }
 
 module _ (z : Shape) (s : List ℕ) {b h : ℕ} (is : GetsField z s Bucket b h) where
   pub weighs-empty : h ≡ z .room → Weighs (leads z (cols z s)) b 0

@@ -12,15 +12,15 @@ use mir.Syntax.{w64}
 use lib.ListN.{length, getD}
 use Rattle.cells.specs.Decides.{Decides}
 use Rattle.cells.proofs.DecidesLaws.{refuse, decides-eq}
-use Rattle.nodes.specs.Nodes.{Key, Chain, Bucket, Cols, cols, Room}
+use Rattle.nodes.specs.Nodes.{Key, Chain, Queue, Bucket, Cols, cols, Room, GetsField}
 use Rattle.nodes.specs.declared.Shape.{Shape}
 use Rattle.key_index.specs.declared.Census.{Census}
 use Rattle.key_index.specs.declared.Census.the-variants.{Count, Broken}
 use Rattle.key_index.specs.Index.{bucketOf}
 use Rattle.key_index.specs.Stored.{col, LiveIn, Indexes}
-use Rattle.key_index.specs.Test.{Weighs, Counts, lives, leads, goesOn, EndOk}
+use Rattle.key_index.specs.Test.{Weighs, Counts, itself, lives, leads, goesOn, EndOk}
 use Rattle.key_index.specs.Test.{WalkSays, IsFirst, IsSecond, Visits}
-use Rattle.key_index.proofs.CountLaws.{ones, ones-length, ones-are, ones-have, ones-nodup, goes-on-is}
+use Rattle.key_index.proofs.CountLaws.{weighs-tag, ones, ones-length, ones-are, ones-have, ones-nodup, goes-on-is}
 use Rattle.key_index.proofs.CountLaws.{is-goes-on, CountedTo, counted-start, counted-next, counted-end, counts-few}
 use Rattle.key_index.proofs.VouchLaws.{Second, Vouches, vouches-first, vouches-none, vouches-second, second-clean}
 use Rattle.key_index.proofs.VouchLaws.{Vouching, vouching-start, vouching-next, vouching-few, vouching-stands, vouching-all}
@@ -121,13 +121,13 @@ module _ (z : Shape) (s : List ℕ) {x sum live links : ℕ} (g : Standing z s x
           room .few,
         )
 
-    pub standing-next : x < z .room → {a b : ℕ} → Weighs (lives (cols z s)) x a → Weighs (goesOn z (cols z s)) x b
+    pub standing-next : x < z .room → {q a b : ℕ} → GetsField z s Queue x q → Weighs itself q a → Weighs (goesOn z (cols z s)) x b
         → Standing z s (x + 1) (sum + m) (live + a) (links + b)
-    standing-next h p q = record {
+    standing-next h tag one w = record {
       vouched = vouching-next (z .room) (z .buckets) (col (cols z s Key)) (col (cols z s Chain)) (col (cols z s Bucket)) (LiveIn z (cols z s)) x sum m
           (g .vouched) (backs z (cols z s) v e);
-      counted-live = counted-next (g .counted-live) h p;
-      counted-links = counted-next (g .counted-links) h q;
+      counted-live = counted-next (g .counted-live) h (weighs-tag z s tag one);
+      counted-links = counted-next (g .counted-links) h w;
     }
 
   -- the heads are counted too

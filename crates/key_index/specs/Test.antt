@@ -42,6 +42,10 @@ abbrev pub given : ℕ → ℕ → ℕ
 given zero b = 0
 given (suc a) b = b
 
+-- above 0 for a tag that says that a node is live
+abbrev pub itself : ℕ → ℕ
+itself t = t
+
 -- above 0 for a live node
 abbrev pub lives : Cols → ℕ → ℕ
 lives c y = getD (c Queue) y 0

@@ -10,16 +10,15 @@ use native.Mathlib.Decide.{ℕ-discrete}
 use lib.ListN.{length, length-append}
 use Rattle.cells.proofs.MembersLaws.{Nodup}
 use Rattle.key_index.specs.Links.{In, Links}
-use Rattle.key_index.specs.Index.{bucketOf, Bucketed, Index}
-use Rattle.key_index.specs.Walks.{Follows}
-use Rattle.key_index.specs.Test.{Strand}
+use Rattle.key_index.specs.Index.{bucketOf, Clean, Bucketed, Index}
+use Rattle.key_index.specs.Walks.{LeadsUp}
 use Rattle.key_index.proofs.LinksLaws.{in-append, in-cases, first, within, behind, next-in, no-return, next-once, in-front}
 use Rattle.key_index.proofs.DistinctLaws.{fewer, onto, tight, nodup-both, nodup-parts}
 use Rattle.key_index.proofs.DistinctLaws.{in-map, map-in, map-long, map-once, map-nodup}
 use Rattle.key_index.proofs.RisesLaws.{rises-once}
 use Rattle.key_index.proofs.IndexLaws.{bucket-below}
 use Rattle.key_index.proofs.CheckLaws.{walked-start, walk-out}
-use Rattle.key_index.proofs.VouchLaws.{top, Link, Stands}
+use Rattle.key_index.proofs.VouchLaws.{top, Arrow, Stands}
 
 -- `heads` are the buckets whose head leads to something, `links` the live nodes whose link does, `every` the live nodes
 pub record Arrows (n buckets : ℕ) (link head : ℕ → ℕ) (live : ℕ → Type 0) (heads links every : List ℕ) : Type 0 where
@@ -60,7 +59,7 @@ module _ {n buckets : ℕ} (key : ℕ → ℕ) {link head : ℕ → ℕ} {live :
         l : live y
         l = a .are y i
 
-        go : (top n buckets key link head live y ≡ y) ⊎ ((p : ℕ) × Link n buckets key link head live p y) → In y goals
+        go : (top n buckets key link head live y ≡ y) ⊎ ((p : ℕ) × Arrow n buckets key link head live p y) → In y goals
         go (inl e) = head-goal (bucketOf (key y) buckets) (bucket-below (key y) buckets some) y e (a .below y l)
         go (inr r) = link-goal (r .0) (r .1 .lives) y (r .1 .link-is) (a .below y l)
 
@@ -80,7 +79,7 @@ module _ {n buckets : ℕ} (key : ℕ → ℕ) {link head : ℕ → ℕ} {live :
         l : live (head b)
         l = a .are (head b) (reached (head b) (in-append (head b) (map head heads) (map link links) (inl (in-map head b heads i))))
 
-        go : (top n buckets key link head live (head b) ≡ head b) ⊎ ((p : ℕ) × Link n buckets key link head live p (head b))
+        go : (top n buckets key link head live (head b) ≡ head b) ⊎ ((p : ℕ) × Arrow n buckets key link head live p (head b))
             → bucketOf (key (head b)) buckets ≡ b
         go (inl e) =
             map-once head heads (parts .0) (bucketOf (key (head b)) buckets) b
@@ -107,7 +106,7 @@ module _ {n buckets : ℕ} (key : ℕ → ℕ) {link head : ℕ → ℕ} {live :
             sym (rw (← e) at (g .1))
         near (inr e) = sym e
 
-        go : (top n buckets key link head live (link p) ≡ link p) ⊎ ((q : ℕ) × Link n buckets key link head live q (link p))
+        go : (top n buckets key link head live (link p) ≡ link p) ⊎ ((q : ℕ) × Arrow n buckets key link head live q (link p))
             → (bucketOf (key (link p)) buckets ≡ bucketOf (key p) buckets) × (key p < key (link p))
         go (inl e) =
             let j = a .heads-have (bucketOf (key (link p)) buckets) (bucket-below (key (link p)) buckets some) (λ q. ne (sym e ∙ q)) in
@@ -118,21 +117,21 @@ module _ {n buckets : ℕ} (key : ℕ → ℕ) {link head : ℕ → ℕ} {live :
             (near (rw o at (r .1 .near)), rw o at (r .1 .under))
 
     -- so every chain is clean
-    on : (b p : ℕ) → live p → bucketOf (key p) buckets ≡ b → Follows n key (key p) (link p)
+    on : (b p : ℕ) → live p → bucketOf (key p) buckets ≡ b → LeadsUp n key (key p) (link p)
         × ((link p ≡ n) ⊎ (live (link p) × (bucketOf (key (link p)) buckets ≡ b)))
     on b p lp e = go (ℕ-discrete (link p) n)
       where
-        go : Dec (link p ≡ n) → Follows n key (key p) (link p) × ((link p ≡ n) ⊎ (live (link p) × (bucketOf (key (link p)) buckets ≡ b)))
+        go : Dec (link p ≡ n) → LeadsUp n key (key p) (link p) × ((link p ≡ n) ⊎ (live (link p) × (bucketOf (key (link p)) buckets ≡ b)))
         go (yes q) = (record { within = omega (arith, q); above = λ h. absurd (omega (arith, q)) }, inl q)
         go (no ne) =
             let g = link-good p lp ne in
             let l = a .below (link p) (g .0) in
             (record { within = omega (arith, l); above = λ h. g .2 }, inr (g .0, g .1 ∙ e))
 
-    strand : (b : ℕ) → b < buckets → Strand n buckets key link live b (head b)
-    strand b h = go (ℕ-discrete (head b) n)
+    clean : (b : ℕ) → b < buckets → Clean n buckets key link live b (head b)
+    clean b h = go (ℕ-discrete (head b) n)
       where
-        go : Dec (head b ≡ n) → Strand n buckets key link live b (head b)
+        go : Dec (head b ≡ n) → Clean n buckets key link live b (head b)
         go (yes q) = walk-out (on b) (a .below) n (head b) 0 (omega arith) (walked-start (omega (arith, q))) (inl q)
         go (no ne) =
             let g = head-good b h ne in
@@ -140,7 +139,7 @@ module _ {n buckets : ℕ} (key : ℕ → ℕ) {link head : ℕ → ℕ} {live :
             walk-out (on b) (a .below) n (head b) 0 (omega arith) (walked-start (omega (arith, l))) (inr g)
 
     -- and has every live node of its bucket: by the size of its key
-    full : (m y b : ℕ) → key y < m → live y → bucketOf (key y) buckets ≡ b → (c : Strand n buckets key link live b (head b)) → In y (c .whole .nodes)
+    full : (m y b : ℕ) → key y < m → live y → bucketOf (key y) buckets ≡ b → (c : Clean n buckets key link live b (head b)) → In y (c .whole .nodes)
     full zero y b h l e c = absurd (omega arith)
     full (suc m) y b h l e c = go (stands y l .place) (full m)
       where
@@ -150,8 +149,8 @@ module _ {n buckets : ℕ} (key : ℕ → ℕ) {link head : ℕ → ℕ} {live :
             rw (← i) at (g .1) ∙ e
         own (inr i) lq = i ∙ e
 
-        go : (top n buckets key link head live y ≡ y) ⊎ ((p : ℕ) × Link n buckets key link head live p y)
-            → ((x d : ℕ) → key x < m → live x → bucketOf (key x) buckets ≡ d → (s : Strand n buckets key link live d (head d)) → In x (s .whole .nodes))
+        go : (top n buckets key link head live y ≡ y) ⊎ ((p : ℕ) × Arrow n buckets key link head live p y)
+            → ((x d : ℕ) → key x < m → live x → bucketOf (key x) buckets ≡ d → (s : Clean n buckets key link live d (head d)) → In x (s .whole .nodes))
             → In y (c .whole .nodes)
         go (inl t) less =
             let f = first n link (head b) (c .whole .nodes) (c .whole .links) (rw (← e, t) (a .below y l)) in
@@ -166,9 +165,7 @@ module _ {n buckets : ℕ} (key : ℕ → ℕ) {link head : ℕ → ℕ} {live :
     arrows-index = record { chains = chain; unique = unique; home = home }
       where
         chain : (b : ℕ) → b < buckets → Bucketed n buckets key link head live b
-        chain b h =
-            let c = strand b h in
-            record { clean = record { whole = c .whole; sound = c .sound; rising = c .rising }; full = λ y l e. full (suc (key y)) y b (omega arith) l e c }
+        chain b h = let c = clean b h in record { clean = c; full = λ y l e. full (suc (key y)) y b (omega arith) l e c }
 
         unique : (x y : ℕ) → live x → live y → key x ≡ key y → x ≡ y
         unique x y l m q =

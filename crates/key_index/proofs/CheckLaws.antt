@@ -7,9 +7,8 @@ use Prim.Native.Nat.{ℕ, zero, suc, _+_, _≤_, _<_}
 use native.Mathlib.Omega.{arith}
 use lib.ListN.{length, length-append}
 use Rattle.key_index.specs.Links.{In, Links, Rises}
-use Rattle.key_index.specs.Index.{bucketOf}
-use Rattle.key_index.specs.Walks.{Follows}
-use Rattle.key_index.specs.Test.{Strand}
+use Rattle.key_index.specs.Index.{bucketOf, Clean}
+use Rattle.key_index.specs.Walks.{LeadsUp}
 use Rattle.key_index.proofs.LinksLaws.{in-append, in-cases, first, within, grow, goes-on}
 use Rattle.key_index.proofs.DistinctLaws.{few}
 use Rattle.key_index.proofs.FewLaws.{links-below}
@@ -30,7 +29,7 @@ module _ {n buckets : ℕ} {key link : ℕ → ℕ} {live : ℕ → Type 0} {b h
   walked-start o = record { front = []; links = refl; sound = λ y i. absurd i; rising = tt; low = λ y i. absurd i; inside = o; size = refl }
 
   module _ (h count : ℕ) (w : Walked n buckets key link live b h₀ h count) where
-    pub walked-done : n ≤ h → (c : Strand n buckets key link live b h₀) × (length (c .whole .nodes) ≡ count)
+    pub walked-done : n ≤ h → (c : Clean n buckets key link live b h₀) × (length (c .whole .nodes) ≡ count)
     walked-done o =
         let e : h ≡ n = omega (arith, o, w .inside) in
         (record { whole = record { nodes = w .front; links = rw e at (w .links) }; sound = w .sound; rising = w .rising }, w .size)
@@ -46,7 +45,7 @@ module _ {n buckets : ℕ} {key link : ℕ → ℕ} {live : ℕ → Type 0} {b h
           (rises-nodup key (w .front ++ h ∷ []) longer) in
           omega (arith, f, w .size, length-append (w .front) (h ∷ []))
 
-      pub walked-next : live h → bucketOf (key h) buckets ≡ b → Follows n key (key h) (link h) → Walked n buckets key link live b h₀ (link h) (count + 1)
+      pub walked-next : live h → bucketOf (key h) buckets ≡ b → LeadsUp n key (key h) (link h) → Walked n buckets key link live b h₀ (link h) (count + 1)
       walked-next l e f =
           record {
             front = w .front ++ h ∷ [];
@@ -61,7 +60,7 @@ module _ {n buckets : ℕ} {key link : ℕ → ℕ} {live : ℕ → Type 0} {b h
           }
 
       -- if the chain is a good one, so is the node that the walk has come to
-      module _ (c : Strand n buckets key link live b h₀) where
+      module _ (c : Clean n buckets key link live b h₀) where
         here : (t : List ℕ) × (c .whole .nodes ≡ w .front ++ h ∷ t) × Links n link (link h) t n
         here =
             let g = goes-on n link h₀ (w .front) (c .whole .nodes) h (w .links) (c .whole .links) in
@@ -71,8 +70,8 @@ module _ {n buckets : ℕ} {key link : ℕ → ℕ} {live : ℕ → Type 0} {b h
         pub walked-good : live h × (bucketOf (key h) buckets ≡ b)
         walked-good = c .sound h (rw (here .1) (in-append h (w .front) (h ∷ here .0) (inr (inl refl))))
 
-        pub walked-follows : Follows n key (key h) (link h)
-        walked-follows =
+        pub walked-up : LeadsUp n key (key h) (link h)
+        walked-up =
             record {
               within = within n link (link h) (here .0) (here .2);
               above = λ o.
@@ -81,11 +80,11 @@ module _ {n buckets : ℕ} {key link : ℕ → ℕ} {live : ℕ → Type 0} {b h
             }
 
   -- where every live node of the bucket is followed by one, every walk comes to an end
-  module _ (on : (p : ℕ) → live p → bucketOf (key p) buckets ≡ b → Follows n key (key p) (link p)
+  module _ (on : (p : ℕ) → live p → bucketOf (key p) buckets ≡ b → LeadsUp n key (key p) (link p)
       × ((link p ≡ n) ⊎ (live (link p) × (bucketOf (key (link p)) buckets ≡ b))))
       (below : (p : ℕ) → live p → p < n) where
     pub walk-out : (fuel h count : ℕ) → n ≤ count + fuel → Walked n buckets key link live b h₀ h count → (h ≡ n) ⊎ (live h × (bucketOf (key h) buckets ≡ b))
-        → Strand n buckets key link live b h₀
+        → Clean n buckets key link live b h₀
     walk-out zero h count long w s =
         ⊎-elim (λ e. walked-done h count w (omega (arith, e)) .0) (λ g. absurd (omega (arith, walked-few h count w (below h (g .0)), long))) s
     walk-out (suc fuel) h count long w s =

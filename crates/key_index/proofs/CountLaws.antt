@@ -11,7 +11,7 @@ use Rattle.cells.proofs.MembersLaws.{Nodup}
 use Rattle.nodes.specs.Nodes.{Chain, Queue, Bucket, Cols, cols, GetsField}
 use Rattle.nodes.specs.declared.Shape.{Shape}
 use Rattle.key_index.specs.Links.{In}
-use Rattle.key_index.specs.Test.{one, countTo, Weighs, Counts, gap, given, lives, leads, goesOn}
+use Rattle.key_index.specs.Test.{oneIf, countTo, Weighs, Counts, differ, given, itself, lives, leads, goesOn}
 use Rattle.key_index.proofs.DistinctLaws.{out-of}
 
 abbrev keep : ℕ → ℕ → List ℕ → List ℕ
@@ -28,7 +28,7 @@ module _ (t : ℕ → ℕ) where
   ones-length zero = refl
   ones-length (suc n) = go (t n) (ones-length n)
     where
-      go : (r : ℕ) → length (ones t n) ≡ countTo t n → length (keep r n (ones t n)) ≡ one r + countTo t n
+      go : (r : ℕ) → length (ones t n) ≡ countTo t n → length (keep r n (ones t n)) ≡ oneIf r + countTo t n
       go zero e = omega (arith, e)
       go (suc r) e = omega (arith, e)
 
@@ -63,7 +63,7 @@ module _ (t : ℕ → ℕ) where
 
 -- ---- one number
 
-above : (r : ℕ) → (r ≡ 0 → ⊥) → 1 ≡ one r
+above : (r : ℕ) → (r ≡ 0 → ⊥) → 1 ≡ oneIf r
 above zero f = absurd (f refl)
 above (suc r) f = refl
 
@@ -73,12 +73,14 @@ weighs-no e = record { number = rw e; small = omega arith }
 weighs-yes : {t : ℕ → ℕ} {x : ℕ} → (t x ≡ 0 → ⊥) → Weighs t x 1
 weighs-yes {t} {x} f = record { number = above (t x) f; small = omega arith }
 
-module _ (z : Shape) (s : List ℕ) {x t : ℕ} (tag : GetsField z s Queue x t) where
-  pub weighs-free : t ≡ 0 → Weighs (lives (cols z s)) x 0
-  weighs-free e = weighs-no (sym (tag .value) ∙ e)
+pub tag-free : {t : ℕ} → t ≡ 0 → Weighs itself t 0
+tag-free e = weighs-no e
 
-  pub weighs-live : (t ≡ 0 → ⊥) → Weighs (lives (cols z s)) x 1
-  weighs-live e = weighs-yes (λ q. e (tag .value ∙ q))
+pub tag-live : {t : ℕ} → (t ≡ 0 → ⊥) → Weighs itself t 1
+tag-live e = weighs-yes e
+
+pub weighs-tag : (z : Shape) (s : List ℕ) {x t r : ℕ} → GetsField z s Queue x t → Weighs itself t r → Weighs (lives (cols z s)) x r
+weighs-tag z s tag w = record { number = w .number ∙ ap oneIf (tag .value); small = w .small }
 
 module _ (z : Shape) (s : List ℕ) {b h : ℕ} (is : GetsField z s Bucket b h) where
   pub weighs-empty : h ≡ z .room → Weighs (leads z (cols z s)) b 0
@@ -97,19 +99,19 @@ given-yes (suc a) b e = refl
 
 module _ (z : Shape) (s : List ℕ) {x t : ℕ} (tag : GetsField z s Queue x t) where
   pub weighs-dead : t ≡ 0 → Weighs (goesOn z (cols z s)) x 0
-  weighs-dead e = weighs-no (given-no (getD (cols z s Queue) x 0) (gap (getD (cols z s Chain) x 0) (z .room)) (sym (tag .value) ∙ e))
+  weighs-dead e = weighs-no (given-no (getD (cols z s Queue) x 0) (differ (getD (cols z s Chain) x 0) (z .room)) (sym (tag .value) ∙ e))
 
   module _ (lv : t ≡ 0 → ⊥) {m : ℕ} (is : GetsField z s Chain x m) where
     pub weighs-last : m ≡ z .room → Weighs (goesOn z (cols z s)) x 0
     weighs-last e = weighs-no
-        (given-yes (getD (cols z s Queue) x 0) (gap (getD (cols z s Chain) x 0) (z .room)) (λ q. lv (tag .value ∙ q)) ∙ omega (arith, is .value, e))
+        (given-yes (getD (cols z s Queue) x 0) (differ (getD (cols z s Chain) x 0) (z .room)) (λ q. lv (tag .value ∙ q)) ∙ omega (arith, is .value, e))
 
     pub weighs-on : (m ≡ z .room → ⊥) → Weighs (goesOn z (cols z s)) x 1
     weighs-on e = weighs-yes
         (λ q. e (omega (
           arith,
           is .value,
-          sym (given-yes (getD (cols z s Queue) x 0) (gap (getD (cols z s Chain) x 0) (z .room)) (λ o. lv (tag .value ∙ o)))
+          sym (given-yes (getD (cols z s Queue) x 0) (differ (getD (cols z s Chain) x 0) (z .room)) (λ o. lv (tag .value ∙ o)))
               ∙ q,
         )))
 
@@ -117,29 +119,29 @@ module _ (z : Shape) (s : List ℕ) {x t : ℕ} (tag : GetsField z s Queue x t) 
 pub goes-on-is : (z : Shape) (c : Cols) (y : ℕ) → 0 < goesOn z c y → (0 < getD (c Queue) y 0) × (getD (c Chain) y 0 ≢ z .room)
 goes-on-is z c y h = go (getD (c Queue) y 0) h
   where
-    go : (a : ℕ) → 0 < given a (gap (getD (c Chain) y 0) (z .room)) → (0 < a) × (getD (c Chain) y 0 ≢ z .room)
+    go : (a : ℕ) → 0 < given a (differ (getD (c Chain) y 0) (z .room)) → (0 < a) × (getD (c Chain) y 0 ≢ z .room)
     go zero k = absurd (omega arith)
     go (suc a) k = (omega arith, λ e. omega arith)
 
 pub is-goes-on : (z : Shape) (c : Cols) (y : ℕ) → 0 < getD (c Queue) y 0 → getD (c Chain) y 0 ≢ z .room → 0 < goesOn z c y
 is-goes-on z c y l ne = go (getD (c Queue) y 0) l
   where
-    go : (a : ℕ) → 0 < a → 0 < given a (gap (getD (c Chain) y 0) (z .room))
+    go : (a : ℕ) → 0 < a → 0 < given a (differ (getD (c Chain) y 0) (z .room))
     go zero k = absurd (omega arith)
     go (suc a) k = omega arith
 
 -- ---- the loop: the numbers below x were counted
 
-pub record Counted (t : ℕ → ℕ) (n x count : ℕ) : Type 0 where
+pub record CountedTo (t : ℕ → ℕ) (n x count : ℕ) : Type 0 where
   pub bound : x ≤ n
   pub few : count ≤ x
   pub number : count ≡ countTo t x
 
-pub counted-start : {t : ℕ → ℕ} {n : ℕ} → Counted t n 0 0
+pub counted-start : {t : ℕ → ℕ} {n : ℕ} → CountedTo t n 0 0
 unfolding countTo
 counted-start = record { bound = omega arith; few = omega arith; number = refl }
 
-pub counted-next : {t : ℕ → ℕ} {n x count w : ℕ} → Counted t n x count → x < n → Weighs t x w → Counted t n (x + 1) (count + w)
+pub counted-next : {t : ℕ → ℕ} {n x count w : ℕ} → CountedTo t n x count → x < n → Weighs t x w → CountedTo t n (x + 1) (count + w)
 unfolding countTo
 counted-next {t} {n} {x} {count} {w} r h e = record {
   bound = omega arith;
@@ -150,10 +152,10 @@ counted-next {t} {n} {x} {count} {w} r h e = record {
     more : (m : ℕ) → m + 1 ≡ suc m
     more m = omega arith
 
-pub counted-end : {t : ℕ → ℕ} {n x count : ℕ} → Counted t n x count → n ≤ x → Counts t n count
+pub counted-end : {t : ℕ → ℕ} {n x count : ℕ} → CountedTo t n x count → n ≤ x → Counts t n count
 counted-end {t} {n} {x} r h = record { number = r .number ∙ ap (countTo t) (omega (arith, r .bound, h)) }
 
-one-small : (a : ℕ) → one a ≤ 1
+one-small : (a : ℕ) → oneIf a ≤ 1
 one-small zero = omega arith
 one-small (suc a) = omega arith
 

@@ -13,5 +13,6 @@ pub mod ArrowLaws
 pub mod LiveLaws
 pub mod StoreLaws
 pub mod TestLaws
+pub mod StandLaws
 pub mod SetUpLaws
 pub mod WriteLaws

@@ -70,7 +70,8 @@ module _ (z : Shape) (s : List ℕ) {h x p m : ℕ} (w : Way (z .room) (col (col
 
 -- ---- one cell written
 
-put-node : (z : Shape) (s : List ℕ) (f : Field) → length (cols z s f) ≡ z .room + 4 → (x v : ℕ) → x < z .room → Put (col (cols z s f)) x v (col (set (cols z s f) x v))
+put-node : (z : Shape) (s : List ℕ) (f : Field) → length (cols z s f) ≡ z .room + 4 → (x v : ℕ) → x < z .room
+    → Put (col (cols z s f)) x v (col (set (cols z s f) x v))
 put-node z s f e x v h = put-set (cols z s f) x v (omega (arith, h, e))
 
 put-head : (z : Shape) (s : List ℕ) (b v : ℕ) → b < z .buckets → Put (col (cols z s Bucket)) b v (col (set (cols z s Bucket) b v))
@@ -100,7 +101,8 @@ module _ (z : Shape) (s : List ℕ) (room : Room z s) (ixs : Indexes z (cols z s
 
   -- ---- remove
 
-  module _ {x : ℕ} (lives : LiveIn z (cols z s) x) {k b h : ℕ} (ek : GetsField z s Key x k) (eb : b ≡ bucketOf k (z .buckets)) (eh : GetsField z s Bucket b h) where
+  module _ {x : ℕ} (lives : LiveIn z (cols z s) x) {k b h : ℕ} (ek : GetsField z s Key x k) (eb : b ≡ bucketOf k (z .buckets))
+      (eh : GetsField z s Bucket b h) where
     own : b ≡ bucketOf (getD (cols z s Key) x 0) (z .buckets)
     own = eb ∙ ap (λ (y : ℕ). bucketOf y (z .buckets)) (ek .value)
 
@@ -113,7 +115,9 @@ module _ (z : Shape) (s : List ℕ) (room : Room z s) (ixs : Indexes z (cols z s
         chain = cols z s Chain;
         bucket = set (cols z s Bucket) b next;
         columns = rw (with-same (cols z s) Chain) (w .columns ∙ over-with (cols z s) Bucket b next);
-        index = rw (en .value) (remove-first ix some x lives b own (put-head z s b (getD (cols z s Chain) x 0) (rw eb (bucket-below k (z .buckets) some))) (sym (eh .value) ∙ e));
+        index =
+            rw (en .value)
+            (remove-first ix some x lives b own (put-head z s b (getD (cols z s Chain) x 0) (rw eb (bucket-below k (z .buckets) some))) (sym (eh .value) ∙ e));
       }
 
       pub unchains-later : {p : ℕ} → h ≢ x → InFront (z .room) (col (cols z s Chain)) h x p → SetsField z s t Chain p next → Unchains z (cols z s) (cols z t) x

@@ -9,8 +9,7 @@ use native.Mathlib.Decide.{ℕ-discrete}
 use lib.ListN.{length, length-append}
 use Rattle.cells.proofs.MembersLaws.{Nodup}
 use Rattle.key_index.specs.Links.{In, Links, Whole, Rises}
-use Rattle.key_index.specs.Index.{bucketOf, Index}
-use Rattle.key_index.specs.Test.{Strand}
+use Rattle.key_index.specs.Index.{bucketOf, Clean, Index}
 use Rattle.key_index.proofs.LinksLaws.{in-append, in-cases, same, in-front}
 use Rattle.key_index.proofs.DistinctLaws.{few, fewer, onto, nodup-both}
 use Rattle.key_index.proofs.FewLaws.{links-below}
@@ -23,7 +22,7 @@ module _ (n buckets : ℕ) (key link head : ℕ → ℕ) (live : ℕ → Type 0)
   top y = head (bucketOf (key y) buckets)
 
   -- y stands behind p, which is first in the chain of y or at least of its bucket
-  pub record Link (p y : ℕ) : Type 0 where
+  pub record Arrow (p y : ℕ) : Type 0 where
     pub lives : live p
     pub link-is : link p ≡ y
     pub under : key p < key y
@@ -32,7 +31,7 @@ module _ (n buckets : ℕ) (key link head : ℕ → ℕ) (live : ℕ → Type 0)
   -- y is the first of its chain, or stands behind a node
   pub record Stands (y : ℕ) : Type 0 where
     pub lives : live y
-    pub place : (top y ≡ y) ⊎ ((p : ℕ) × Link p y)
+    pub place : (top y ≡ y) ⊎ ((p : ℕ) × Arrow p y)
 
   -- w vouches for y: both are the first of the chain, or w is the second and y is not in front of it
   abbrev pub For : ℕ → ℕ → Type 0
@@ -75,7 +74,7 @@ module _ (n buckets : ℕ) (key link head : ℕ → ℕ) (live : ℕ → Type 0)
   vouches-none x f s =
       record { nodes = []; distinct = tt; each = λ y i. absurd i; first = λ l e. f l e; second = λ t. absurd (s t); size = refl }
 
-  pub vouches-second : (x b m : ℕ) → Second x → b ≡ bucketOf (key x) buckets → (c : Strand n buckets key link live b x) → length (c .whole .nodes) ≡ m
+  pub vouches-second : (x b m : ℕ) → Second x → b ≡ bucketOf (key x) buckets → (c : Clean n buckets key link live b x) → length (c .whole .nodes) ≡ m
       → Vouches x m
   vouches-second x b m s is c size =
       record {
@@ -96,7 +95,7 @@ module _ (n buckets : ℕ) (key link head : ℕ → ℕ) (live : ℕ → Type 0)
       bucket : (y : ℕ) → In y (c .whole .nodes) → bucketOf (key y) buckets ≡ bucketOf (key x) buckets
       bucket y i = c .sound y i .1 ∙ is
 
-      place : (y : ℕ) → In y (c .whole .nodes) → (y ≡ x) ⊎ ((p : ℕ) × In p (c .whole .nodes) × (link p ≡ y)) → (p : ℕ) × Link p y
+      place : (y : ℕ) → In y (c .whole .nodes) → (y ≡ x) ⊎ ((p : ℕ) × In p (c .whole .nodes) × (link p ≡ y)) → (p : ℕ) × Arrow p y
       place y i (inl e) = (top x, rw e (record { lives = s .head-lives; link-is = s .link-is; under = s .under; near = inl refl }))
       place y i (inr r) =
           let l : link (r .0) < n = rw (r .2) (links-below n link x (c .whole .nodes) n (c .whole .links) y i) in
@@ -202,15 +201,15 @@ module _ (n buckets : ℕ) (key link head : ℕ → ℕ) (live : ℕ → Type 0)
                   (record { nodes = v ∷ xs; links = (refl, w .2 .1, w .2 .2) }) y i
 
 -- in an index the chain goes on well from its second node
-pub second-strand : {n buckets : ℕ} {key link head : ℕ → ℕ} {live : ℕ → Type 0} {x : ℕ} → Index n buckets key link head live → 0 < buckets
-    → Second n buckets key link head live x → Strand n buckets key link live (bucketOf (key x) buckets) x
-second-strand {n} {buckets} {key} {link} {head} {live} {x} ix some s =
+pub second-clean : {n buckets : ℕ} {key link head : ℕ → ℕ} {live : ℕ → Type 0} {x : ℕ} → Index n buckets key link head live → 0 < buckets
+    → Second n buckets key link head live x → Clean n buckets key link live (bucketOf (key x) buckets) x
+second-clean {n} {buckets} {key} {link} {head} {live} {x} ix some s =
     let c = ix .chains (bucketOf (key x) buckets) (bucket-below (key x) buckets some) in
     go (c .clean .whole .nodes) (c .clean .whole .links) (c .clean .sound) (c .clean .rising) (c .full x (s .lives) refl)
   where
     go : (xs : List ℕ) → Links n link (head (bucketOf (key x) buckets)) xs n
         → ((y : ℕ) → In y xs → live y × (bucketOf (key y) buckets ≡ bucketOf (key x) buckets)) → Rises key xs → In x xs
-        → Strand n buckets key link live (bucketOf (key x) buckets) x
+        → Clean n buckets key link live (bucketOf (key x) buckets) x
     go (h ∷ xs) w sound r i =
         let e : link h ≡ x = rw (w .0) at (s .link-is) in
         record { whole = record { nodes = xs; links = rw e at (w .2) }; sound = λ y j. sound y (inr j); rising = r .1 }

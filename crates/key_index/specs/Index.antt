@@ -8,15 +8,15 @@ use Rattle.key_index.specs.Links.{In, Whole, Rises}
 unfoldable pub bucketOf : ℕ → ℕ → ℕ
 bucketOf k buckets = (k / 2 ^ 32 * 2246822507 + k % 2 ^ 32) % 2 ^ 32 * 2654435769 % 2 ^ 32 * buckets / 2 ^ 32
 
--- the chain of the bucket b ends, its nodes are live and of that bucket, and their keys rise
-pub record Clean (n buckets : ℕ) (key link head : ℕ → ℕ) (live : ℕ → Type 0) (b : ℕ) : Type 0 where
-  pub whole : Whole n link (head b)
+-- the chain from the link h ends, its nodes are live and of the bucket b, and their keys rise
+pub record Clean (n buckets : ℕ) (key link : ℕ → ℕ) (live : ℕ → Type 0) (b h : ℕ) : Type 0 where
+  pub whole : Whole n link h
   pub sound : (y : ℕ) → In y (whole .nodes) → live y × (bucketOf (key y) buckets ≡ b)
   pub rising : Rises key (whole .nodes)
 
--- and it has every live node of that bucket
+-- the chain of the bucket b is so, and has every live node of that bucket
 pub record Bucketed (n buckets : ℕ) (key link head : ℕ → ℕ) (live : ℕ → Type 0) (b : ℕ) : Type 0 where
-  pub clean : Clean n buckets key link head live b
+  pub clean : Clean n buckets key link live b (head b)
   pub full : (y : ℕ) → live y → bucketOf (key y) buckets ≡ b → In y (clean .whole .nodes)
 
 -- n nodes are indexed by key: each bucket has its chain, no two live nodes have one key, and the end of chains leads to itself

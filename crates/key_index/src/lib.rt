@@ -1,15 +1,16 @@
 // The key index of bounded size: which live node holds a key. It stands for the original's hash map,
 // in lent memory (RULES 1.3): a head for each bucket, and in each node a link to the next of its bucket,
-// in the order of their keys. The link N ends a chain; N is a sentinel that leads to itself.
+// in the order of their keys. The number of nodes ends a chain. It is a sentinel's: that leads to itself
+// and is free, so that of the end of a chain may be read what is read of a node.
 ghost use mathlib.Core.Path.{_≡_};
 ghost use Prim.Native.Nat.{_≤_, _<_};
 ghost use Rattle.cells.specs.Decides.{Decides};
-ghost use Rattle.nodes.specs.Nodes.{Field, cols, Room};
+ghost use Rattle.nodes.specs.Nodes.{Field, cols, Room, GetsField};
 ghost use Rattle.key_index.specs.Links.{Whole};
 ghost use Rattle.key_index.specs.Index.{bucketOf};
-ghost use Rattle.key_index.specs.Walks.{FirstIs, Goes, InFront, Gap, Follows};
+ghost use Rattle.key_index.specs.Walks.{FirstIs, Goes, InFront, Gap, LeadsUp};
 ghost use Rattle.key_index.specs.Stored.{col, LiveIn, Indexes, IsFound, CanJoin, Joins, Unchains, EmptyBuckets, Empties};
-ghost use Rattle.key_index.specs.Test.{EndOk, LinkOk, StrandSays, Behind, Visits, Weighs, Counts, lives, leads, goesOn};
+ghost use Rattle.key_index.specs.Test.{EndOk, LinkOk, WalkSays, Behind, Visits, Weighs, Counts, itself, leads, goesOn};
 use nodes::Shape;
 
 // What a lookup finds: the node that holds the key, or that none does.
@@ -19,7 +20,7 @@ pub enum Found {
 }
 
 // What the check says of nodes that it looks at: how many are as they should be, or that there is no index.
-pub enum Tally {
+enum Census {
     Count(usize),
     Broken,
 }
@@ -66,15 +67,15 @@ fn place_of(s: &[u8], z: Shape, h: usize, k: u64) -> usize
     ensures { λ r. ⌜ Gap (z .room) (col (cols z (now (s .entry)) Field.Key)) (col (cols z (now (s .entry)) Field.Chain)) k h r ⌝ }
 {
     let mut at = h;
-    let mut p = z.room;
+    let mut low = z.room;
     while at < z.room {
         if k <= nodes::key_of(s, z, at) {
-            return p;
+            return low;
         }
-        p = at;
+        low = at;
         at = nodes::chain_of(s, z, at);
     }
-    p
+    low
 }
 
 // The free node `x` gets the key `k`, and stands in the key's chain behind the smaller keys. Its tag is
@@ -164,9 +165,9 @@ fn end_ok(s: &[u8], z: Shape) -> bool
 }
 
 // Whether a link `m` behind a node with the key `k` ends the chain, or leads to a larger key.
-fn follows(s: &[u8], z: Shape, k: u64, m: usize) -> bool
+fn leads_up(s: &[u8], z: Shape, k: u64, m: usize) -> bool
     requires { ⌜ Room z (now s) ⌝ }
-    ensures { λ r. ⌜ Decides (Follows (z .room) (col (cols z (now (s .entry)) Field.Key)) k m) r ⌝ }
+    ensures { λ r. ⌜ Decides (LeadsUp (z .room) (col (cols z (now (s .entry)) Field.Key)) k m) r ⌝ }
 {
     if m < z.room {
         return k < nodes::key_of(s, z, m);
@@ -188,25 +189,25 @@ fn link_ok(s: &[u8], z: Shape, b: usize, x: usize) -> bool
         return false;
     }
     let next = nodes::chain_of(s, z, x);
-    follows(s, z, k, next)
+    leads_up(s, z, k, next)
 }
 
 // Walks the chain from the node `h` on, which is to be one of the bucket `b`. The links may be anything;
 // it ends because the keys rise, so that no node is passed twice.
-fn walk(s: &[u8], z: Shape, b: usize, h: usize) -> Tally
+fn walk(s: &[u8], z: Shape, b: usize, h: usize) -> Census
     requires { ⌜ Room z (now s) × (h < z .room) ⌝ }
-    ensures { λ r. ⌜ StrandSays z (cols z (now (s .entry))) b h r ⌝ }
+    ensures { λ r. ⌜ WalkSays z (cols z (now (s .entry))) b h r ⌝ }
 {
     let mut at = h;
     let mut count = 0;
     while at < z.room {
         if !link_ok(s, z, b, at) {
-            return Tally::Broken;
+            return Census::Broken;
         }
         at = nodes::chain_of(s, z, at);
         count += 1;
     }
-    Tally::Count(count)
+    Census::Count(count)
 }
 
 // Whether `h` is a live node with a key below `k`, and `x` is behind it.
@@ -226,39 +227,38 @@ fn is_behind(s: &[u8], z: Shape, h: usize, x: usize, k: u64) -> bool
     nodes::key_of(s, z, h) < k
 }
 
-// How many nodes a node vouches for: the first of a chain for itself, and the second for itself and for
-// all behind it, which are walked. Few chains have more than two nodes.
-fn visit(s: &[u8], z: Shape, x: usize) -> Tally
-    requires { ⌜ Room z (now s) × (x < z .room) ⌝ }
+// How many nodes a node with the tag `t` vouches for: the first of a chain for itself, and the second for
+// itself and for all behind it, which are walked. Few chains have more than two nodes.
+fn visit(s: &[u8], z: Shape, x: usize, t: usize) -> Census
+    requires { ⌜ Room z (now s) × (x < z .room) × GetsField z (now s) Field.Queue x t ⌝ }
     ensures { λ r. ⌜ Visits z (cols z (now (s .entry))) x r ⌝ }
 {
-    if nodes::queue_of(s, z, x) == 0 {
-        return Tally::Count(0);
+    if t == 0 {
+        return Census::Count(0);
     }
     let k = nodes::key_of(s, z, x);
     let b = bucket_of_key(k, z.buckets);
     let h = nodes::bucket_of(s, z, b);
     if h == x {
-        return Tally::Count(1);
+        return Census::Count(1);
     }
     if !is_behind(s, z, h, x, k) {
-        return Tally::Count(0);
+        return Census::Count(0);
     }
     walk(s, z, b, x)
 }
 
-// 1 for a live node, and 0 for a free one.
-fn live_at(s: &[u8], z: Shape, x: usize) -> usize
-    requires { ⌜ Room z (now s) × (x < z .room) ⌝ }
-    ensures { λ r. ⌜ Weighs (lives (cols z (now (s .entry)))) x r ⌝ }
+// 1 for the tag of a live node, and 0 for that of a free one.
+fn one_if(t: usize) -> usize
+    ensures { λ r. ⌜ Weighs itself t r ⌝ }
 {
-    if nodes::queue_of(s, z, x) == 0 {
+    if t == 0 {
         return 0;
     }
     1
 }
 
-// 1 for a head that leads to something.
+// 1 for a head that leads to something, and 0 for the end of chains.
 fn head_at(s: &[u8], z: Shape, b: usize) -> usize
     requires { ⌜ Room z (now s) × (b < z .buckets) ⌝ }
     ensures { λ r. ⌜ Weighs (leads z (cols z (now (s .entry)))) b r ⌝ }
@@ -269,7 +269,7 @@ fn head_at(s: &[u8], z: Shape, b: usize) -> usize
     1
 }
 
-// How many heads do.
+// How many heads lead to something.
 fn count_heads(s: &[u8], z: Shape) -> usize
     requires { ⌜ Room z (now s) ⌝ }
     ensures { λ r. ⌜ Counts (leads z (cols z (now (s .entry)))) (z .buckets) r ⌝ }
@@ -283,12 +283,12 @@ fn count_heads(s: &[u8], z: Shape) -> usize
     count
 }
 
-// 1 for a live node whose link leads to something.
-fn link_at(s: &[u8], z: Shape, x: usize) -> usize
-    requires { ⌜ Room z (now s) × (x < z .room) ⌝ }
+// 1 for a live node whose link leads to something, and 0 for any other; `t` is its tag.
+fn link_at(s: &[u8], z: Shape, x: usize, t: usize) -> usize
+    requires { ⌜ Room z (now s) × (x < z .room) × GetsField z (now s) Field.Queue x t ⌝ }
     ensures { λ r. ⌜ Weighs (goesOn z (cols z (now (s .entry)))) x r ⌝ }
 {
-    if nodes::queue_of(s, z, x) == 0 {
+    if t == 0 {
         return 0;
     }
     if nodes::chain_of(s, z, x) == z.room {
@@ -309,13 +309,14 @@ fn nodes_stand(s: &[u8], z: Shape, heads: usize) -> bool
     let mut live = 0;
     let mut links = 0;
     while x < z.room {
-        let tally = visit(s, z, x);
-        let Tally::Count(m) = tally else {
+        let t = nodes::queue_of(s, z, x);
+        let census = visit(s, z, x, t);
+        let Census::Count(m) = census else {
             return false;
         };
         sum += m;
-        live += live_at(s, z, x);
-        links += link_at(s, z, x);
+        live += one_if(t);
+        links += link_at(s, z, x, t);
         x += 1;
     }
     if heads + links != live {

@@ -31,8 +31,8 @@ module _ {z : Shape} {c d : Cols} {x k : ℕ} (j : Joins z c d x k) (v : ℕ) wh
   entered-lists : {f : ℕ → List ℕ} → Lists z c f → Lists z entered f
   unfolding over withColumn
   entered-lists r =
-      rw (j .columns) (lists-frame r (over (over (withColumn (withColumn (over c Key x k) Chain (j .chain)) Bucket (j .bucket)) Value x v) Freq x 0) refl refl refl
-      (λ t b. refl) refl)
+      let e : Cols = over (over (withColumn (withColumn (over c Key x k) Chain (j .chain)) Bucket (j .bucket)) Value x v) Freq x 0 in
+      rw (j .columns) (lists-frame r e refl refl refl (λ t b. refl) refl)
 
   -- the index reads the key alone
   entered-index : (t : ℕ) → Indexes z (over d Queue x t) → Indexes z (over entered Queue x t)

@@ -5,7 +5,7 @@
 ghost use Prim.Native.Nat.{_+_, _<_};
 ghost use Rattle.cells.specs.Decides.{Decides, All};
 ghost use Rattle.nodes.specs.Nodes.{Field, cols, Room, GetsField};
-ghost use Rattle.lists.specs.Check.{Listed, Counted, StepOk, Home, ListOk};
+ghost use Rattle.lists.specs.Check.{Listed, Counted, StepOk, Home, Leads, ListOk, PairOk};
 ghost use Rattle.lists.specs.Fresh.{allFree, Fresh, EmptyList};
 ghost use Rattle.lists.specs.Lists.{Lists, CanUnlink, Unlinked, CanLink, Linked, CanDetach, Detached, CanAttach, Attached, CanFront, ToFront};
 use nodes::Shape;
@@ -153,38 +153,76 @@ fn comes_home(s: &[u8], z: Shape, t: usize, u: usize) -> bool
     nodes::prev_of(s, z, sent) == u
 }
 
-// Whether list t leads back to its sentinel over as many nodes as the header says. No link is trusted:
-// the walk goes on only over nodes, and takes as many steps as the header says.
+// Whether list t leads from node u back to its sentinel over n nodes. No link is trusted: the walk goes
+// on only over nodes, and takes n steps.
+fn rest_ok(s: &[u8], z: Shape, t: usize, n: u64, u: usize) -> bool
+    requires { ⌜ Room z (now s) × (t < 4) × (u < z .room + 4) ⌝ }
+    ensures { λ r. ⌜ Decides (Leads z (now (s .entry)) t n u) r ⌝ }
+{
+    let mut left = n;
+    let mut at = u;
+    while 0 < left {
+        let y = nodes::next_of(s, z, at);
+        if !step_ok(s, z, t, at, y) {
+            return false;
+        }
+        at = y;
+        left -= 1;
+    }
+    comes_home(s, z, t, at)
+}
+
+// Whether list t leads from its sentinel back to it over as many nodes as the header says.
 fn list_ok(s: &[u8], z: Shape, t: usize) -> bool
     requires { ⌜ Room z (now s) × (t < 4) ⌝ }
     ensures { λ r. ⌜ Decides (ListOk z (now (s .entry)) t) r ⌝ }
 {
-    let mut left = length_of(s, z, t);
-    let mut u = z.room + t;
-    while 0 < left {
-        let y = nodes::next_of(s, z, u);
-        if !step_ok(s, z, t, u, y) {
-            return false;
-        }
-        u = y;
-        left -= 1;
-    }
-    comes_home(s, z, t, u)
+    let n = length_of(s, z, t);
+    rest_ok(s, z, t, n, z.room + t)
 }
 
-// Whether all four lists do.
+// Whether lists t and v both do. They are walked side by side as far as the shorter one goes, so that
+// the waits for memory of one fall into those of the other.
+fn pair_ok(s: &[u8], z: Shape, t: usize, v: usize) -> bool
+    requires { ⌜ Room z (now s) × (t < 4) × (v < 4) ⌝ }
+    ensures { λ r. ⌜ Decides (PairOk z (now (s .entry)) t v) r ⌝ }
+{
+    let mut a = length_of(s, z, t);
+    let mut b = length_of(s, z, v);
+    let mut u = z.room + t;
+    let mut w = z.room + v;
+    while 0 < a && 0 < b {
+        let x = nodes::next_of(s, z, u);
+        let y = nodes::next_of(s, z, w);
+        if !step_ok(s, z, t, u, x) {
+            return false;
+        }
+        if !step_ok(s, z, v, w, y) {
+            return false;
+        }
+        u = x;
+        w = y;
+        a -= 1;
+        b -= 1;
+    }
+    if !rest_ok(s, z, t, a, u) {
+        return false;
+    }
+    rest_ok(s, z, v, b, w)
+}
+
+// Whether all four lists do. Main and Ghosts, the long ones, go as a pair.
 fn lists_ok(s: &[u8], z: Shape) -> bool
     requires { ⌜ Room z (now s) ⌝ }
     ensures { λ r. ⌜ Decides (All (ListOk z (now (s .entry))) 4) r ⌝ }
 {
-    let mut t = 0;
-    while t < 4 {
-        if !list_ok(s, z, t) {
-            return false;
-        }
-        t += 1;
+    if !list_ok(s, z, FREE) {
+        return false;
     }
-    true
+    if !list_ok(s, z, SMALL) {
+        return false;
+    }
+    pair_ok(s, z, MAIN, GHOSTS)
 }
 
 // Whether bytes that nobody vouches for are four lists with every node in one. The lengths are summed

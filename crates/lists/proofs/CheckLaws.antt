@@ -105,25 +105,18 @@ pub pair-start : {z : Shape} {s : List ℕ} {t v a b : ℕ} → t < 4 → v < 4 
     → Pairing z s t v a b (z .room + t) (z .room + v)
 pair-start i j m n = record { one = list-start i m; two = list-start j n }
 
-module _ {z : Shape} {s : List ℕ} {t v : ℕ} where
-  no-one : Decides (ListOk z s t) false → Decides (PairOk z s t v) false
-  no-one d = refuse (λ p. d .fails refl (p .first))
-
-  no-two : Decides (ListOk z s v) false → Decides (PairOk z s t v) false
-  no-two d = refuse (λ p. d .fails refl (p .second))
-
 module _ {z : Shape} {s : List ℕ} {t v a b u w : ℕ} (p : Pairing z s t v a b u w) where
   -- a step of each; that the second list has nodes to come is the answer of a test
   module _ {y : ℕ} {r : Bool} (j : ltb 0 b ≡ true) (l : GetsField z s Next w y) (e : Decides (StepOk z s v w y) r) where
     pub bad-two : not r ≡ true → Decides (PairOk z s t v) false
-    bad-two n = no-two (walk-bad (p .two) (ltb-true 0 b j) l e n)
+    bad-two n = refuse (λ h. walk-bad (p .two) (ltb-true 0 b j) l e n .fails refl (h .second))
 
     module _ {x : ℕ} {q : Bool} (i : 0 < a) (k : GetsField z s Next u x) (d : Decides (StepOk z s t u x) q) where
       pub pair-next : not q ≡ false → not r ≡ false → Pairing z s t v (a - 1) (b - 1) x y
       pair-next m n = record { one = walk-next (p .one) i k d m; two = walk-next (p .two) (ltb-true 0 b j) l e n }
 
   pub bad-one : {x : ℕ} {q : Bool} → 0 < a → GetsField z s Next u x → Decides (StepOk z s t u x) q → not q ≡ true → Decides (PairOk z s t v) false
-  bad-one i k d n = no-one (walk-bad (p .one) i k d n)
+  bad-one i k d n = refuse (λ h. walk-bad (p .one) i k d n .fails refl (h .first))
 
   -- the rest of each
   module _ {q : Bool} (d : Decides (Leads z s t a u) q) where

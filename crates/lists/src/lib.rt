@@ -101,8 +101,9 @@ pub fn to_front(s: &mut [u8], z: Shape, t: usize, x: usize)
     requires { ⌜ CanFront z (now s) t x ⌝ }
     ensures { λ _. ⌜ ToFront z (now (s .entry)) (now (s .exit)) t x ⌝ }
 {
+    let h = z.room + t;
     unlink(s, z, x);
-    link(s, z, z.room + t, x);
+    link(s, z, h, x);
 }
 
 // Whether the lengths in the header come to the number of nodes.

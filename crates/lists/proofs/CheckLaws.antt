@@ -17,7 +17,7 @@ use Rattle.nodes.specs.declared.Shape.{Shape}
 use Rattle.nodes.proofs.NodesLaws.{length-cols}
 use Rattle.lists.specs.Ring.{Seg, Ring, Tagged}
 use Rattle.lists.specs.Pool.{view}
-use Rattle.lists.specs.Lists.{many, Lists}
+use Rattle.lists.specs.Lists.{listCount, many, Lists}
 use Rattle.lists.specs.Check.{Listed, Counted, StepOk, Home, Leads, ListOk, PairOk}
 use Rattle.lists.proofs.PoolLaws.{ring-view}
 use Rattle.lists.proofs.ListsLaws.{four}
@@ -87,7 +87,7 @@ module _ {P : Type 0} {z : Shape} {s : List ℕ} {t left u : ℕ} (w : Walking P
 
 -- ---- a list, from its sentinel
 
-module _ {z : Shape} {s : List ℕ} {t n : ℕ} (b : t < 4) (a : GetsField z s Head (4 + t) n) where
+module _ {z : Shape} {s : List ℕ} {t n : ℕ} (b : t < listCount) (a : GetsField z s Head (4 + t) n) where
   list-start : Walking (ListOk z s t) z s t n (z .room + t)
   list-start = rw (a .value) (record { near = omega arith; whole = λ g. record { leads = g }; part = λ h. h .leads })
 
@@ -101,7 +101,7 @@ pub record Pairing (z : Shape) (s : List ℕ) (t v a b u w : ℕ) : Type 0 where
   pub one : Walking (ListOk z s t) z s t a u
   pub two : Walking (ListOk z s v) z s v b w
 
-pub pair-start : {z : Shape} {s : List ℕ} {t v a b : ℕ} → t < 4 → v < 4 → GetsField z s Head (4 + t) a → GetsField z s Head (4 + v) b
+pub pair-start : {z : Shape} {s : List ℕ} {t v a b : ℕ} → t < listCount → v < listCount → GetsField z s Head (4 + t) a → GetsField z s Head (4 + v) b
     → Pairing z s t v a b (z .room + t) (z .room + v)
 pair-start i j m n = record { one = list-start i m; two = list-start j n }
 
@@ -185,13 +185,13 @@ module _ {z : Shape} {s : List ℕ} where
 
   -- two lists and a pair are all
   pub all-ok : {q r w : Bool} → Decides (ListOk z s 0) q → not q ≡ false → Decides (ListOk z s 1) r → not r ≡ false → Decides (PairOk z s 2 3) w
-      → Decides (All (ListOk z s) 4) w
+      → Decides (All (ListOk z s) listCount) w
   all-ok {q} {r} a m b n =
       decides-map
       (λ p. record { all = four (ListOk z s) (a .holds (not-false q m)) (b .holds (not-false r n)) (p .first) (p .second) })
       (λ h. record { first = h .all 2 (omega arith); second = h .all 3 (omega arith) })
 
-  lists-chained : (f : ℕ → List ℕ) → Lists z (cols z s) f → All (ListOk z s) 4
+  lists-chained : (f : ℕ → List ℕ) → Lists z (cols z s) f → All (ListOk z s) listCount
   lists-chained f l =
       record {
         all =
@@ -207,7 +207,7 @@ module _ {z : Shape} {s : List ℕ} where
       }
 
   -- the lists are those that the links spell
-  ok-lists : All (ListOk z s) 4 → Lists z (cols z s) (view (z .room) (cols z s Next))
+  ok-lists : All (ListOk z s) listCount → Lists z (cols z s) (view (z .room) (cols z s Next))
   ok-lists h =
       record {
         pool = record { rings = rings; tags = tags; in-q = omega (arith, length-cols z s Queue refl) };
@@ -215,10 +215,10 @@ module _ {z : Shape} {s : List ℕ} where
         in-head = omega (arith, length-cols z s Head refl);
       }
     where
-      leads : (t : ℕ) → t < 4 → Leads z s t (many (cols z s) t) (z .room + t)
+      leads : (t : ℕ) → t < listCount → Leads z s t (many (cols z s) t) (z .room + t)
       leads t b = h .all t b .leads
 
-      ring : (t : ℕ) (b : t < 4) → Ring (z .room) (cols z s Next) (cols z s Prev) (z .room + t) (leads t b .list)
+      ring : (t : ℕ) (b : t < listCount) → Ring (z .room) (cols z s Next) (cols z s Prev) (z .room + t) (leads t b .list)
       ring t b =
           record {
             seg = leads t b .seg;
@@ -228,22 +228,22 @@ module _ {z : Shape} {s : List ℕ} where
             in-pv = omega (arith, length-cols z s Prev refl);
           }
 
-      seen : (t : ℕ) (b : t < 4) → leads t b .list ≡ view (z .room) (cols z s Next) t
+      seen : (t : ℕ) (b : t < listCount) → leads t b .list ≡ view (z .room) (cols z s Next) t
       seen t b = sym (ring-view (z .room) (cols z s Next) (cols z s Prev) t (leads t b .list) (ring t b))
 
-      rings : (t : ℕ) → t < 4 → Ring (z .room) (cols z s Next) (cols z s Prev) (z .room + t) (view (z .room) (cols z s Next) t)
+      rings : (t : ℕ) → t < listCount → Ring (z .room) (cols z s Next) (cols z s Prev) (z .room + t) (view (z .room) (cols z s Next) t)
       rings t b = subst (λ (l : List ℕ). Ring (z .room) (cols z s Next) (cols z s Prev) (z .room + t) l) (seen t b) (ring t b)
 
-      tags : (t : ℕ) → t < 4 → Tagged (cols z s Queue) t (view (z .room) (cols z s Next) t)
+      tags : (t : ℕ) → t < listCount → Tagged (cols z s Queue) t (view (z .room) (cols z s Next) t)
       tags t b = subst (λ (l : List ℕ). Tagged (cols z s Queue) t l) (seen t b) (leads t b .tags)
 
-      counts : (t : ℕ) → t < 4 → many (cols z s) t ≡ length (view (z .room) (cols z s Next) t)
+      counts : (t : ℕ) → t < listCount → many (cols z s) t ≡ length (view (z .room) (cols z s Next) t)
       counts t b = sym (leads t b .count) ∙ ap length (seen t b)
 
-  pub listed : {q r : Bool} → Decides (Counted z s) q → not q ≡ false → Decides (All (ListOk z s) 4) r → Decides (Listed z s) r
+  pub listed : {q r : Bool} → Decides (Counted z s) q → not q ≡ false → Decides (All (ListOk z s) listCount) r → Decides (Listed z s) r
   listed {q} d n = decides-map to (λ l. lists-chained (l .of) (l .lists))
     where
-      to : All (ListOk z s) 4 → Listed z s
+      to : All (ListOk z s) listCount → Listed z s
       to h =
           let l : Lists z (cols z s) (view (z .room) (cols z s Next)) = ok-lists h in
           let k : Counted z s = d .holds (not-false q n) in

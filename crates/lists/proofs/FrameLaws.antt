@@ -10,7 +10,7 @@ use lib.Seq.{getD-set-other}
 use Rattle.nodes.specs.Nodes.{Field, Head, Key, Value, Next, Prev, Chain, Queue, Freq, Bucket, Rest, Cols, over, withColumn}
 use Rattle.nodes.specs.declared.Shape.{Shape}
 use Rattle.nodes.proofs.OverLaws.{Other, with-other, over-with}
-use Rattle.lists.specs.Lists.{many, Lists, Untouched, unlink, link, detached, attached}
+use Rattle.lists.specs.Lists.{listCount, many, Lists, Untouched, unlink, link, detached, attached}
 
 -- ---- what is no part of the lists
 
@@ -32,7 +32,7 @@ same-then a b =
     }
 
 -- columns that differ from c in the lists' own fields and in the length of list t alone
-pub same-but : {c d : Cols} {t : ℕ} → t < 4 → d Key ≡ c Key → d Value ≡ c Value → d Chain ≡ c Chain → d Freq ≡ c Freq → d Bucket ≡ c Bucket → d Rest ≡ c Rest
+pub same-but : {c d : Cols} {t : ℕ} → t < listCount → d Key ≡ c Key → d Value ≡ c Value → d Chain ≡ c Chain → d Freq ≡ c Freq → d Bucket ≡ c Bucket → d Rest ≡ c Rest
     → ((i : ℕ) → i ≢ 4 + t → getD (d Head) i 0 ≡ getD (c Head) i 0) → Untouched c d
 same-but b k v n q u e h =
     record {
@@ -67,7 +67,7 @@ module _ (c : Cols) (t x : ℕ) where
 
 -- ---- all else stays
 
-module _ (c : Cols) {t : ℕ} (tK : t < 4) (x : ℕ) where
+module _ (c : Cols) {t : ℕ} (tK : t < listCount) (x : ℕ) where
   pub detached-same : Untouched c (detached c t x)
   unfolding detached unlink over
   detached-same = same-but tK refl refl refl refl refl refl (detached-heads c t x)
@@ -79,7 +79,7 @@ module _ (c : Cols) {t : ℕ} (tK : t < 4) (x : ℕ) where
 -- ---- what leaves the lists alone
 
 module _ {z : Shape} {c : Cols} {f : ℕ → List ℕ} (r : Lists z c f) where
-  pub lists-frame : (d : Cols) → d Next ≡ c Next → d Prev ≡ c Prev → d Queue ≡ c Queue → ((t : ℕ) → t < 4 → many d t ≡ many c t)
+  pub lists-frame : (d : Cols) → d Next ≡ c Next → d Prev ≡ c Prev → d Queue ≡ c Queue → ((t : ℕ) → t < listCount → many d t ≡ many c t)
       → length (d Head) ≡ length (c Head) → Lists z d f
   lists-frame d a b e h l = record { pool = rw (a, b, e) (r .pool); counts = λ t tK. h t tK ∙ r .counts t tK; in-head = rw l (r .in-head) }
 

@@ -16,7 +16,7 @@ use Rattle.nodes.specs.declared.Shape.{Shape}
 use Rattle.nodes.proofs.NodesLaws.{length-cols}
 use Rattle.lists.specs.Ring.{Ring}
 use Rattle.lists.specs.Pool.{Absent, upd}
-use Rattle.lists.specs.Lists.{many, Lists, inAll, Untouched, CanAttach, Attached}
+use Rattle.lists.specs.Lists.{listCount, many, Lists, inAll, Untouched, CanAttach, Attached}
 use Rattle.lists.specs.Fresh.{stack, allFree, Fresh, emptied, EmptyList}
 use Rattle.lists.proofs.EveryLaws.{high}
 use Rattle.lists.proofs.RingLaws.{ring-nx, ring-pv}
@@ -36,7 +36,7 @@ pub record Bare (z : Shape) (c : Cols) (i : ℕ) : Type 0 where
   pub count : many c i ≡ 0
 
 module _ (z : Shape) (c : Cols) (t : ℕ) where
-  emptied-same : t < 4 → Untouched c (emptied z c t)
+  emptied-same : t < listCount → Untouched c (emptied z c t)
   unfolding emptied over
   emptied-same b = same-but b refl refl refl refl refl refl (λ i n. getD-set-other (c Head) (4 + t) i 0 0 n)
 
@@ -70,11 +70,11 @@ pub record EmptyingLists (z : Shape) (s₀ s : List ℕ) (t : ℕ) : Type 0 wher
   pub bare : (i : ℕ) → i < t → Bare z (cols z s) i
   pub untouched : Untouched (cols z s₀) (cols z s)
 
-pub emptying-start : (z : Shape) (s : List ℕ) → Turns (EmptyingLists z s) 4 s s 0
+pub emptying-start : (z : Shape) (s : List ℕ) → Turns (EmptyingLists z s) listCount s s 0
 emptying-start z s = turns-start (record { bare = λ i b. absurd (omega arith); untouched = same-all (cols z s) })
 
-module _ {z : Shape} {s₀ s : List ℕ} {t : ℕ} (e : Turns (EmptyingLists z s₀) 4 s₀ s t) where
-  pub emptying-next : {s₁ : List ℕ} → t < 4 → EmptyList z s s₁ t → length s₁ ≡ length s → Turns (EmptyingLists z s₀) 4 s₀ s₁ (t + 1)
+module _ {z : Shape} {s₀ s : List ℕ} {t : ℕ} (e : Turns (EmptyingLists z s₀) listCount s₀ s t) where
+  pub emptying-next : {s₁ : List ℕ} → t < listCount → EmptyList z s s₁ t → length s₁ ≡ length s → Turns (EmptyingLists z s₀) listCount s₀ s₁ (t + 1)
   emptying-next {s₁} b d l =
       let c : Cols = cols z s in
       turns-next e b l
@@ -87,12 +87,12 @@ module _ {z : Shape} {s₀ s : List ℕ} {t : ℕ} (e : Turns (EmptyingLists z s
         untouched = same-then (e .so-far .untouched) (rw (d .columns) (emptied-same z c t b));
       })
 
-  none : (i : ℕ) → i < 4 → allFree 0 i ≡ []
+  none : (i : ℕ) → i < listCount → allFree 0 i ≡ []
   none = four (λ i. allFree 0 i ≡ []) refl refl refl refl
 
-  pub emptying-end : 4 ≤ t → Fresh z s₀ s 0
+  pub emptying-end : listCount ≤ t → Fresh z s₀ s 0
   emptying-end h =
-      let d : EmptyingLists z s₀ s 4 = turns-end e h in
+      let d : EmptyingLists z s₀ s listCount = turns-end e h in
       record {
         lists = record {
           pool = record {
@@ -120,13 +120,13 @@ stack-below (suc n) = (omega arith, every-map (stack n) (λ y (b : y < n). omega
 pub free-total : (n : ℕ) → inAll (allFree n) ≡ n
 free-total n = omega (arith, stack-length n)
 
-free-out : (n : ℕ) → Absent 4 (allFree n) n
+free-out : (n : ℕ) → Absent listCount (allFree n) n
 free-out n = four (λ t. Out n (allFree n t)) (high n n (stack n) (omega arith) (stack-below n)) tt tt tt
 
 stack-next : (n : ℕ) → stack (n + 1) ≡ n ∷ stack n
 stack-next n = ap stack (let e : n + 1 ≡ suc n = omega arith in e)
 
-free-next : (n t : ℕ) → t < 4 → upd (allFree n) 0 (n ∷ allFree n 0) t ≡ allFree (n + 1) t
+free-next : (n t : ℕ) → t < listCount → upd (allFree n) 0 (n ∷ allFree n 0) t ≡ allFree (n + 1) t
 free-next n = four (λ t. upd (allFree n) 0 (n ∷ allFree n 0) t ≡ allFree (n + 1) t) (sym (stack-next n)) refl refl refl
 
 pub freeing-start : {z : Shape} {s : List ℕ} → Lists z (cols z s) (allFree 0) → Turns (Fresh z s) (z .room) s s 0

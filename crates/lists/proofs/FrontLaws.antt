@@ -9,7 +9,7 @@ use lib.Seq.{getD-set-same, set-set, set-getD}
 use Rattle.cells.specs.Members.{Among}
 use Rattle.nodes.specs.Nodes.{Field, Head, Key, Value, Next, Prev, Chain, Queue, Freq, Bucket, Rest, Cols, cols, over}
 use Rattle.nodes.specs.declared.Shape.{Shape}
-use Rattle.lists.specs.Lists.{many, Lists, unlink, link, detached, attached, fronted, CanDetach, CanFront}
+use Rattle.lists.specs.Lists.{listCount, many, Lists, unlink, link, detached, attached, fronted, CanDetach, CanFront}
 use Rattle.lists.proofs.ListsLaws.{lists-take, lists-tag, lists-some, lists-first-in, can-take}
 
 -- a number that is written less one, and then plus one, is the number that stood there
@@ -18,7 +18,7 @@ count-back h i b n =
     let e : getD (set h i (getD h i 0 - 1)) i 0 + 1 ≡ getD h i 0 = omega (arith, getD-set-same h i (getD h i 0 - 1) 0 b) in
     set-set h i (getD h i 0 - 1) (getD (set h i (getD h i 0 - 1)) i 0 + 1) ∙ rw e (set-getD h i 0)
 
-module _ {z : Shape} {c : Cols} {f : ℕ → List ℕ} (r : Lists z c f) {t : ℕ} (tK : t < 4) {x : ℕ} (p : Among x (f t)) where
+module _ {z : Shape} {c : Cols} {f : ℕ → List ℕ} (r : Lists z c f) {t : ℕ} (tK : t < listCount) {x : ℕ} (p : Among x (f t)) where
   -- field by field; the links are written alike
   front-at : (g : Field) → attached z (detached c t x) t x g ≡ fronted z c t x g
   unfolding fronted attached detached link unlink over
@@ -41,7 +41,7 @@ module _ {z : Shape} {c : Cols} {f : ℕ → List ℕ} (r : Lists z c f) {t : �
   unfolding detached over
   front-first = lists-first-in (lists-take r tK (p .front) x (p .back) (p .is)) tK
 
-pub can-front : {z : Shape} {s : List ℕ} {f : ℕ → List ℕ} → Lists z (cols z s) f → {t : ℕ} → t < 4 → {x : ℕ} → Among x (f t) → CanFront z s t x
+pub can-front : {z : Shape} {s : List ℕ} {f : ℕ → List ℕ} → Lists z (cols z s) f → {t : ℕ} → t < listCount → {x : ℕ} → Among x (f t) → CanFront z s t x
 can-front {z} {s} r {t} tK {x} p =
     let k : CanDetach z s t x = can-take r tK p in
     record { list = tK; node = k .node; next-in = k .next-in; prev-in = k .prev-in; first-in = front-first r tK p }

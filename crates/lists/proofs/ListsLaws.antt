@@ -12,7 +12,7 @@ use Rattle.nodes.specs.Nodes.{Head, Next, Prev, Queue, Cols, cols, over, GetsFi
 use Rattle.nodes.specs.declared.Shape.{Shape}
 use Rattle.lists.specs.Ring.{First, Last, Ring, Tagged}
 use Rattle.lists.specs.Pool.{Absent, upd, view}
-use Rattle.lists.specs.Lists.{many, Lists, inAll, unlink, link, detached, attached, CanDetach, Detached, CanAttach}
+use Rattle.lists.specs.Lists.{listCount, many, Lists, inAll, unlink, link, detached, attached, CanDetach, Detached, CanAttach}
 use Rattle.lists.proofs.RingLaws.{attachNx, attachPv, detachNx, detachPv, Member, first-back, ring-first, ring-last}
 use Rattle.lists.proofs.PoolLaws.{upd-all, pool-member, pool-tag, pool-elsewhere, pool-taken, pool-gone, pool-pushed, pool-view, cat}
 use Rattle.lists.proofs.PoolLaws.{pool-full, ring-shorter}
@@ -26,29 +26,29 @@ four P a b c d (suc (suc (suc zero))) h = d
 four P a b c d (suc (suc (suc (suc t)))) h = absurd (omega arith)
 
 -- the length of list t was written; the others' stand where they stood
-count-set : (h : List ℕ) (f : ℕ → List ℕ) → ((t : ℕ) → t < 4 → getD h (4 + t) 0 ≡ length (f t)) → 8 ≤ length h → (i : ℕ) → i < 4
+count-set : (h : List ℕ) (f : ℕ → List ℕ) → ((t : ℕ) → t < listCount → getD h (4 + t) 0 ≡ length (f t)) → 8 ≤ length h → (i : ℕ) → i < listCount
     → (l : List ℕ) (n : ℕ) → n ≡ length l
-    → (t : ℕ) → t < 4 → getD (set h (4 + i) n) (4 + t) 0 ≡ length (upd f i l t)
+    → (t : ℕ) → t < listCount → getD (set h (4 + i) n) (4 + t) 0 ≡ length (upd f i l t)
 count-set h f k b i iK l n e =
-    upd-all (λ t m. t < 4 → getD (set h (4 + i) n) (4 + t) 0 ≡ length m) f i l (λ _. getD-set-same h (4 + i) n 0 (omega arith) ∙ e)
+    upd-all (λ t m. t < listCount → getD (set h (4 + i) n) (4 + t) 0 ≡ length m) f i l (λ _. getD-set-same h (4 + i) n 0 (omega arith) ∙ e)
     (λ t ne tK. getD-set-other h (4 + i) (4 + t) n 0 (omega arith) ∙ k t tK)
 
 module _ {z : Shape} {c : Cols} {f : ℕ → List ℕ} (r : Lists z c f) where
   -- ---- take
 
-  module _ {t : ℕ} (tK : t < 4) (a : List ℕ) (x : ℕ) (b : List ℕ) (e : f t ≡ a ++ x ∷ b) where
+  module _ {t : ℕ} (tK : t < listCount) (a : List ℕ) (x : ℕ) (b : List ℕ) (e : f t ≡ a ++ x ∷ b) where
     pub lists-member : Member (z .room) (c Next) (c Prev) (z .room + t) a x b
-    lists-member = pool-member (z .room) 4 (c Next) (c Prev) (c Queue) f (r .pool) t tK a x b e
+    lists-member = pool-member (z .room) listCount (c Next) (c Prev) (c Queue) f (r .pool) t tK a x b e
 
     pub lists-node : x < z .room
     lists-node = lists-member .node
 
     pub lists-tag : getD (c Queue) x 0 ≡ t
-    lists-tag = pool-tag (z .room) 4 (c Next) (c Prev) (c Queue) f (r .pool) t tK a x b e
+    lists-tag = pool-tag (z .room) listCount (c Next) (c Prev) (c Queue) f (r .pool) t tK a x b e
 
     -- a node stands once: not in another list, nor twice in its own
-    pub lists-elsewhere : (i : ℕ) → i ≢ t → i < 4 → Out x (f i)
-    lists-elsewhere = pool-elsewhere (z .room) 4 (c Next) (c Prev) (c Queue) f (r .pool) t tK a x b e
+    pub lists-elsewhere : (i : ℕ) → i ≢ t → i < listCount → Out x (f i)
+    lists-elsewhere = pool-elsewhere (z .room) listCount (c Next) (c Prev) (c Queue) f (r .pool) t tK a x b e
 
     pub lists-once : Out x a × Out x b
     lists-once = (lists-member .not-before, lists-member .not-after)
@@ -60,29 +60,29 @@ module _ {z : Shape} {c : Cols} {f : ℕ → List ℕ} (r : Lists z c f) where
     unfolding detached unlink over detachNx detachPv
     lists-take =
         record {
-          pool = pool-taken (z .room) 4 (c Next) (c Prev) (c Queue) f (r .pool) t tK a x b e;
+          pool = pool-taken (z .room) listCount (c Next) (c Prev) (c Queue) f (r .pool) t tK a x b e;
           counts = count-set (c Head) f (r .counts) (r .in-head) t tK (a ++ b) (many c t - 1) (omega (arith, lists-some));
           in-head = rw length-set (r .in-head);
         }
 
     -- then x is in no list
-    pub lists-gone : Absent 4 (upd f t (a ++ b)) x
-    lists-gone = pool-gone (z .room) 4 (c Next) (c Prev) (c Queue) f (r .pool) t tK a x b e
+    pub lists-gone : Absent listCount (upd f t (a ++ b)) x
+    lists-gone = pool-gone (z .room) listCount (c Next) (c Prev) (c Queue) f (r .pool) t tK a x b e
 
   -- ---- push
 
-  pub lists-push : {x : ℕ} → Absent 4 f x → x < z .room → {t : ℕ} → t < 4 → Lists z (attached z c t x) (upd f t (x ∷ f t))
+  pub lists-push : {x : ℕ} → Absent listCount f x → x < z .room → {t : ℕ} → t < listCount → Lists z (attached z c t x) (upd f t (x ∷ f t))
   unfolding attached link over attachNx attachPv
   lists-push {x} o xN {t} tK =
       record {
-        pool = pool-pushed (z .room) 4 (c Next) (c Prev) (c Queue) f (r .pool) x o xN t tK;
+        pool = pool-pushed (z .room) listCount (c Next) (c Prev) (c Queue) f (r .pool) x o xN t tK;
         counts = count-set (c Head) f (r .counts) (r .in-head) t tK (x ∷ f t) (many c t + 1) (omega (arith, r .counts t tK));
         in-head = rw length-set (r .in-head);
       }
 
   -- ---- members, lengths and ends
 
-  module _ {t : ℕ} (tK : t < 4) where
+  module _ {t : ℕ} (tK : t < listCount) where
     -- the same by a member's place
     pub among-node : {x : ℕ} → Among x (f t) → x < z .room
     among-node {x} p = lists-node tK (p .front) x (p .back) (p .is)
@@ -96,7 +96,7 @@ module _ {z : Shape} {c : Cols} {f : ℕ → List ℕ} (r : Lists z c f) where
         let k : getD (c Next) (z .room + t) 0 ≤ z .room + t = first-back (z .room) (c Next) (c Prev) (z .room + t) (f t) lists-ring .1 in omega arith
 
     pub lists-view : view (z .room) (c Next) t ≡ f t
-    lists-view = pool-view (z .room) 4 (c Next) (c Prev) (c Queue) f (r .pool) t tK
+    lists-view = pool-view (z .room) listCount (c Next) (c Prev) (c Queue) f (r .pool) t tK
 
     -- the sentinel's previous is the oldest node, its next the newest
     pub lists-tail : 1 ≤ many c t → Last (getD (c Prev) (z .room + t) 0) (f t)
@@ -105,8 +105,8 @@ module _ {z : Shape} {c : Cols} {f : ℕ → List ℕ} (r : Lists z c f) where
     pub lists-head : 1 ≤ many c t → First (getD (c Next) (z .room + t) 0) (f t)
     lists-head h = ring-first (z .room) (c Next) (c Prev) (z .room + t) (f t) lists-ring (omega (arith, r .counts t tK))
 
-  -- lists that are the same below 4 are the same
-  pub lists-ext : {g : ℕ → List ℕ} → ((t : ℕ) → t < 4 → f t ≡ g t) → Lists z c g
+  -- lists that are the same below their number are the same
+  pub lists-ext : {g : ℕ → List ℕ} → ((t : ℕ) → t < listCount → f t ≡ g t) → Lists z c g
   lists-ext {g} e =
       record {
         pool = record {
@@ -120,7 +120,7 @@ module _ {z : Shape} {c : Cols} {f : ℕ → List ℕ} (r : Lists z c f) where
 
   -- ---- how many there are in all
 
-  all-four : length (cat f 4) ≡ inAll f
+  all-four : length (cat f listCount) ≡ inAll f
   all-four =
       omega (
         arith,
@@ -132,13 +132,13 @@ module _ {z : Shape} {c : Cols} {f : ℕ → List ℕ} (r : Lists z c f) where
 
   -- where every node is in a list, its tag says in which
   module _ (w : inAll f ≡ z .room) (x : ℕ) (b : x < z .room) where
-    found : (t : ℕ) × (t < 4) × Among x (f t)
-    found = pool-full (z .room) 4 (c Next) (c Prev) (c Queue) f (r .pool) (omega (arith, all-four)) x b
+    found : (t : ℕ) × (t < listCount) × Among x (f t)
+    found = pool-full (z .room) listCount (c Next) (c Prev) (c Queue) f (r .pool) (omega (arith, all-four)) x b
 
     found-tag : getD (c Queue) x 0 ≡ found .0
     found-tag = lists-tag (found .1) (found .2 .front) x (found .2 .back) (found .2 .is)
 
-    pub lists-tagged : getD (c Queue) x 0 < 4
+    pub lists-tagged : getD (c Queue) x 0 < listCount
     lists-tagged = omega (arith, found-tag, found .1)
 
     pub lists-place : {t : ℕ} → getD (c Queue) x 0 ≡ t → Among x (f t)
@@ -146,14 +146,14 @@ module _ {z : Shape} {c : Cols} {f : ℕ → List ℕ} (r : Lists z c f) where
 
 -- ---- take and push may be called
 
-module _ {z : Shape} {s : List ℕ} {f : ℕ → List ℕ} (r : Lists z (cols z s) f) {t : ℕ} (tK : t < 4) where
+module _ {z : Shape} {s : List ℕ} {f : ℕ → List ℕ} (r : Lists z (cols z s) f) {t : ℕ} (tK : t < listCount) where
   pub can-take : {x : ℕ} → Among x (f t) → CanDetach z s t x
   can-take {x} p =
       let m : Member (z .room) (cols z s Next) (cols z s Prev) (z .room + t) (p .front) x (p .back) = lists-member r tK (p .front) x (p .back) (p .is) in
       let n : many (cols z s) t ≡ suc (length (p .front ++ p .back)) = lists-some r tK (p .front) x (p .back) (p .is) in
       record { list = tK; node = m .node; next-in = omega arith; prev-in = omega arith; some = omega arith }
 
-  pub can-push : {x : ℕ} → Absent 4 f x → x < z .room → CanAttach z s t x
+  pub can-push : {x : ℕ} → Absent listCount f x → x < z .room → CanAttach z s t x
   can-push {x} o b =
       record {
         list = tK;

@@ -44,3 +44,8 @@ pub record Leads (z : Shape) (s : List ℕ) (t k u : ℕ) : Type 0 where
 -- list t leads from its sentinel back to it, over as many nodes as the header says
 pub record ListOk (z : Shape) (s : List ℕ) (t : ℕ) : Type 0 where
   pub leads : Leads z s t (many (cols z s) t) (z .room + t)
+
+-- lists t and v both do
+pub record PairOk (z : Shape) (s : List ℕ) (t v : ℕ) : Type 0 where
+  pub first : ListOk z s t
+  pub second : ListOk z s v

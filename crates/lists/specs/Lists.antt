@@ -9,14 +9,18 @@ use Rattle.nodes.specs.Nodes.{Head, Key, Value, Next, Prev, Chain, Queue, Freq,
 use Rattle.nodes.specs.declared.Shape.{Shape}
 use Rattle.lists.specs.Pool.{Pool}
 
+-- how many lists there are
+abbrev pub listCount : ℕ
+listCount = 4
+
 -- what the header says of the length of list t
 abbrev pub many : Cols → ℕ → ℕ
 many c t = getD (c Head) (4 + t) 0
 
 -- the columns' four lists are f's, and the header has their lengths
 pub record Lists (z : Shape) (c : Cols) (f : ℕ → List ℕ) : Type 0 where
-  pub pool : Pool (z .room) 4 (c Next) (c Prev) (c Queue) f
-  pub counts : (t : ℕ) → t < 4 → many c t ≡ length (f t)
+  pub pool : Pool (z .room) listCount (c Next) (c Prev) (c Queue) f
+  pub counts : (t : ℕ) → t < listCount → many c t ≡ length (f t)
   pub in-head : 8 ≤ length (c Head)
 
 -- how many nodes they have in all
@@ -80,7 +84,7 @@ pub record Linked (z : Shape) (s s′ : List ℕ) (h x : ℕ) : Type 0 where
 
 -- x and its neighbours are in reach, and list t has a node to lose
 pub record CanDetach (z : Shape) (s : List ℕ) (t x : ℕ) : Type 0 where
-  pub list : t < 4
+  pub list : t < listCount
   pub node : x < z .room
   pub next-in : getD (cols z s Next) x 0 < z .room + 4
   pub prev-in : getD (cols z s Prev) x 0 < z .room + 4
@@ -92,7 +96,7 @@ pub record Detached (z : Shape) (s s′ : List ℕ) (t x : ℕ) : Type 0 where
 
 -- x and the head of list t are in reach, and the list is not as long as it can be
 pub record CanAttach (z : Shape) (s : List ℕ) (t x : ℕ) : Type 0 where
-  pub list : t < 4
+  pub list : t < listCount
   pub node : x < z .room
   pub next-in : getD (cols z s Next) (z .room + t) 0 < z .room + 4
   pub space : many (cols z s) t < z .room
@@ -103,7 +107,7 @@ pub record Attached (z : Shape) (s s′ : List ℕ) (t x : ℕ) : Type 0 where
 
 -- x, its neighbours and the head of list t are in reach, the head when x is out of its ring
 pub record CanFront (z : Shape) (s : List ℕ) (t x : ℕ) : Type 0 where
-  pub list : t < 4
+  pub list : t < listCount
   pub node : x < z .room
   pub next-in : getD (cols z s Next) x 0 < z .room + 4
   pub prev-in : getD (cols z s Prev) x 0 < z .room + 4

@@ -5,9 +5,9 @@
 ghost use Prim.Native.Nat.{_+_, _<_};
 ghost use Rattle.cells.specs.Decides.{Decides, All};
 ghost use Rattle.nodes.specs.Nodes.{Field, cols, Room, GetsField};
-ghost use Rattle.lists.specs.Check.{Listed, Counted, StepOk, Home, ListOk};
+ghost use Rattle.lists.specs.Check.{Listed, Counted, StepOk, Home, Leads, ListOk, PairOk};
 ghost use Rattle.lists.specs.Fresh.{allFree, Fresh, EmptyList};
-ghost use Rattle.lists.specs.Lists.{Lists, CanUnlink, Unlinked, CanLink, Linked, CanDetach, Detached, CanAttach, Attached, CanFront, ToFront};
+ghost use Rattle.lists.specs.Lists.{listCount, Lists, CanUnlink, Unlinked, CanLink, Linked, CanDetach, Detached, CanAttach, Attached, CanFront, ToFront};
 use nodes::Shape;
 
 // The numbers of the lists.
@@ -19,12 +19,15 @@ pub const MAIN: usize = 2;
 
 pub const GHOSTS: usize = 3;
 
+// How many there are.
+const LISTS: usize = 4;
+
 // The header's cell for the length of list 0; the others follow.
 const LENGTHS: usize = 4;
 
 // How many nodes list t has.
 pub fn length_of(s: &[u8], z: Shape, t: usize) -> u64
-    requires { ⌜ Room z (now s) × (t < 4) ⌝ }
+    requires { ⌜ Room z (now s) × (t < listCount) ⌝ }
     ensures { λ r. ⌜ GetsField z (now (s .entry)) Field.Head (4 + t) r ⌝ }
 {
     nodes::head_of(s, z, LENGTHS + t)
@@ -32,7 +35,7 @@ pub fn length_of(s: &[u8], z: Shape, t: usize) -> u64
 
 // The newest node of list t, and the list's sentinel where there is none.
 pub fn head_node_of(s: &[u8], z: Shape, t: usize) -> usize
-    requires { ⌜ Room z (now s) × (t < 4) ⌝ }
+    requires { ⌜ Room z (now s) × (t < listCount) ⌝ }
     ensures { λ r. ⌜ GetsField z (now (s .entry)) Field.Next (z .room + t) r ⌝ }
 {
     nodes::next_of(s, z, z.room + t)
@@ -40,7 +43,7 @@ pub fn head_node_of(s: &[u8], z: Shape, t: usize) -> usize
 
 // The oldest node of list t, and the list's sentinel where there is none.
 pub fn tail_of(s: &[u8], z: Shape, t: usize) -> usize
-    requires { ⌜ Room z (now s) × (t < 4) ⌝ }
+    requires { ⌜ Room z (now s) × (t < listCount) ⌝ }
     ensures { λ r. ⌜ GetsField z (now (s .entry)) Field.Prev (z .room + t) r ⌝ }
 {
     nodes::prev_of(s, z, z.room + t)
@@ -101,8 +104,9 @@ pub fn to_front(s: &mut [u8], z: Shape, t: usize, x: usize)
     requires { ⌜ CanFront z (now s) t x ⌝ }
     ensures { λ _. ⌜ ToFront z (now (s .entry)) (now (s .exit)) t x ⌝ }
 {
+    let h = z.room + t;
     unlink(s, z, x);
-    link(s, z, z.room + t, x);
+    link(s, z, h, x);
 }
 
 // Whether the lengths in the header come to the number of nodes.
@@ -143,7 +147,7 @@ fn step_ok(s: &[u8], z: Shape, t: usize, u: usize, y: usize) -> bool
 
 // Whether node u is the last of list t.
 fn comes_home(s: &[u8], z: Shape, t: usize, u: usize) -> bool
-    requires { ⌜ Room z (now s) × (t < 4) × (u < z .room + 4) ⌝ }
+    requires { ⌜ Room z (now s) × (t < listCount) × (u < z .room + 4) ⌝ }
     ensures { λ r. ⌜ Decides (Home z (now (s .entry)) t u) r ⌝ }
 {
     let sent = z.room + t;
@@ -153,38 +157,76 @@ fn comes_home(s: &[u8], z: Shape, t: usize, u: usize) -> bool
     nodes::prev_of(s, z, sent) == u
 }
 
-// Whether list t leads back to its sentinel over as many nodes as the header says. No link is trusted:
-// the walk goes on only over nodes, and takes as many steps as the header says.
-fn list_ok(s: &[u8], z: Shape, t: usize) -> bool
-    requires { ⌜ Room z (now s) × (t < 4) ⌝ }
-    ensures { λ r. ⌜ Decides (ListOk z (now (s .entry)) t) r ⌝ }
+// Whether list t leads from node u back to its sentinel over n nodes. No link is trusted: the walk goes
+// on only over nodes, and takes n steps.
+fn rest_ok(s: &[u8], z: Shape, t: usize, n: u64, u: usize) -> bool
+    requires { ⌜ Room z (now s) × (t < listCount) × (u < z .room + 4) ⌝ }
+    ensures { λ r. ⌜ Decides (Leads z (now (s .entry)) t n u) r ⌝ }
 {
-    let mut left = length_of(s, z, t);
-    let mut u = z.room + t;
+    let mut left = n;
+    let mut at = u;
     while 0 < left {
-        let y = nodes::next_of(s, z, u);
-        if !step_ok(s, z, t, u, y) {
+        let y = nodes::next_of(s, z, at);
+        if !step_ok(s, z, t, at, y) {
             return false;
         }
-        u = y;
+        at = y;
         left -= 1;
     }
-    comes_home(s, z, t, u)
+    comes_home(s, z, t, at)
 }
 
-// Whether all four lists do.
-fn lists_ok(s: &[u8], z: Shape) -> bool
-    requires { ⌜ Room z (now s) ⌝ }
-    ensures { λ r. ⌜ Decides (All (ListOk z (now (s .entry))) 4) r ⌝ }
+// Whether list t leads from its sentinel back to it over as many nodes as the header says.
+fn list_ok(s: &[u8], z: Shape, t: usize) -> bool
+    requires { ⌜ Room z (now s) × (t < listCount) ⌝ }
+    ensures { λ r. ⌜ Decides (ListOk z (now (s .entry)) t) r ⌝ }
 {
-    let mut t = 0;
-    while t < 4 {
-        if !list_ok(s, z, t) {
+    let n = length_of(s, z, t);
+    rest_ok(s, z, t, n, z.room + t)
+}
+
+// Whether lists t and v both do. They are walked side by side as far as the shorter one goes, so that
+// the waits for memory of one fall into those of the other.
+fn pair_ok(s: &[u8], z: Shape, t: usize, v: usize) -> bool
+    requires { ⌜ Room z (now s) × (t < listCount) × (v < listCount) ⌝ }
+    ensures { λ r. ⌜ Decides (PairOk z (now (s .entry)) t v) r ⌝ }
+{
+    let mut a = length_of(s, z, t);
+    let mut b = length_of(s, z, v);
+    let mut u = z.room + t;
+    let mut w = z.room + v;
+    while 0 < a && 0 < b {
+        let x = nodes::next_of(s, z, u);
+        let y = nodes::next_of(s, z, w);
+        if !step_ok(s, z, t, u, x) {
             return false;
         }
-        t += 1;
+        if !step_ok(s, z, v, w, y) {
+            return false;
+        }
+        u = x;
+        w = y;
+        a -= 1;
+        b -= 1;
     }
-    true
+    if !rest_ok(s, z, t, a, u) {
+        return false;
+    }
+    rest_ok(s, z, v, b, w)
+}
+
+// Whether all four lists do. Main and Ghosts, the long ones, go as a pair.
+fn lists_ok(s: &[u8], z: Shape) -> bool
+    requires { ⌜ Room z (now s) ⌝ }
+    ensures { λ r. ⌜ Decides (All (ListOk z (now (s .entry))) listCount) r ⌝ }
+{
+    if !list_ok(s, z, FREE) {
+        return false;
+    }
+    if !list_ok(s, z, SMALL) {
+        return false;
+    }
+    pair_ok(s, z, MAIN, GHOSTS)
 }
 
 // Whether bytes that nobody vouches for are four lists with every node in one. The lengths are summed
@@ -201,7 +243,7 @@ pub fn check_lists(s: &[u8], z: Shape) -> bool
 
 // Makes list t empty, whatever the bytes were: its sentinel is its own neighbour.
 fn empty(s: &mut [u8], z: Shape, t: usize)
-    requires { ⌜ Room z (now s) × (t < 4) ⌝ }
+    requires { ⌜ Room z (now s) × (t < listCount) ⌝ }
     ensures { λ _. ⌜ EmptyList z (now (s .entry)) (now (s .exit)) t ⌝ }
 {
     let sent = z.room + t;
@@ -216,7 +258,7 @@ fn empty_all(s: &mut [u8], z: Shape)
     ensures { λ _. ⌜ Fresh z (now (s .entry)) (now (s .exit)) 0 ⌝ }
 {
     let mut t = 0;
-    while t < 4 {
+    while t < LISTS {
         empty(s, z, t);
         t += 1;
     }

@@ -2,16 +2,17 @@
 -- Assumes nothing.
 use borrow.Author.Needs.{needs}
 use Rattle.cells.proofs.TurnsLaws.{Turns}
+use Rattle.lists.specs.Lists.{listCount}
 use Rattle.lists.proofs.FreshLaws.{EmptyingLists, emptying-start, emptying-next, emptying-end}
 use Prim.Native.Nat.{_-_}
 use Rattle.lists.proofs.empty_all.Statement.{statement}
 use Rattle.lists.proofs.empty_all.Tie as tie
 
 abbrev Inv-loop : tie.InvT-loop
-Inv-loop s₀ z t₀ s t = Turns (EmptyingLists z s₀) 4 s₀ s t
+Inv-loop s₀ z t₀ s t = Turns (EmptyingLists z s₀) listCount s₀ s t
 
 abbrev μ-loop : tie.MeasureT-loop
-μ-loop s₀ z t₀ s t = 4 - t
+μ-loop s₀ z t₀ s t = listCount - t
 
 ruleset laws = (needs, emptying-start, emptying-next, emptying-end)
 

@@ -8,4 +8,4 @@ use Rattle.lists.proofs.to_front.Tie as tie
 ruleset laws = (needs, front-unlink, front-link, front-done)
 
 pub to-front-spec : {M : Type 1} → statement M
-to-front-spec = tie.close (tie.spec (λ c κs. search laws) (λ c. search laws) (λ c κs. search laws) (λ c. search laws) (λ c. search laws))
+to-front-spec = tie.close (tie.spec (λ c. search laws) (λ c κs. search laws) (λ c κs. search laws) (λ c. search laws) (λ c. search laws))

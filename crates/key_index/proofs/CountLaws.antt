@@ -8,7 +8,9 @@ use native.Mathlib.Omega.{arith}
 use native.Mathlib.Decide.{ℕ-discrete}
 use lib.ListN.{length, getD}
 use Rattle.cells.proofs.MembersLaws.{Nodup}
-use Rattle.nodes.specs.Nodes.{Chain, Queue, Bucket, Cols, cols, GetsField}
+use mir.Syntax.{w16, w32}
+use mir.Val.{Fits}
+use Rattle.nodes.specs.Nodes.{Chain, Queue, Bucket, Cols, cols, Room, GetsField}
 use Rattle.nodes.specs.declared.Shape.{Shape}
 use Rattle.key_index.specs.Links.{In}
 use Rattle.key_index.specs.Test.{oneIf, countTo, Weighs, Counts, differ, given, itself, lives, leads, goesOn}
@@ -82,6 +84,10 @@ tag-live e = weighs-yes e
 pub weighs-tag : (z : Shape) (s : List ℕ) {x t r : ℕ} → GetsField z s Queue x t → Weighs itself t r → Weighs (lives (cols z s)) x r
 weighs-tag z s tag w = record { number = w .number ∙ ap oneIf (tag .value); small = w .small }
 
+-- the end of chains is a number of two bytes
+pub room-fits : (z : Shape) (s : List ℕ) → Room z s → Fits w16 (z .room)
+room-fits z s r = omega (arith, r .few)
+
 module _ (z : Shape) (s : List ℕ) {b h : ℕ} (is : GetsField z s Bucket b h) where
   pub weighs-empty : h ≡ z .room → Weighs (leads z (cols z s)) b 0
   weighs-empty e = weighs-no (omega (arith, is .value, e))
@@ -151,6 +157,11 @@ counted-next {t} {n} {x} {count} {w} r h e = record {
   where
     more : (m : ℕ) → m + 1 ≡ suc m
     more m = omega arith
+
+-- a count of heads fits four bytes
+pub counted-fits : (z : Shape) (s : List ℕ) {t : ℕ → ℕ} {x count w : ℕ} → Room z s → CountedTo t (z .buckets) x count → x < z .buckets → Weighs t x w
+    → Fits w32 (count + w)
+counted-fits z s room r h e = omega (arith, room .few-buckets, r .few, e .small)
 
 pub counted-end : {t : ℕ → ℕ} {n x count : ℕ} → CountedTo t n x count → n ≤ x → Counts t n count
 counted-end {t} {n} {x} r h = record { number = r .number ∙ ap (countTo t) (omega (arith, r .bound, h)) }

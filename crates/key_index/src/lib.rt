@@ -258,12 +258,13 @@ fn one_if(t: usize) -> usize
     1
 }
 
-// 1 for a head that leads to something, and 0 for the end of chains.
-fn head_at(s: &[u8], z: Shape, b: usize) -> usize
+// 1 for a head that leads to something, and 0 for the end of chains. Both fit two bytes, and are compared as
+// such: so compiled code takes many heads at a time.
+fn head_at(s: &[u8], z: Shape, b: usize) -> u32
     requires { ⌜ Room z (now s) × (b < z .buckets) ⌝ }
     ensures { λ r. ⌜ Weighs (leads z (cols z (now (s .entry)))) b r ⌝ }
 {
-    if nodes::bucket_of(s, z, b) == z.room {
+    if nodes::bucket_of(s, z, b) as u16 == z.room as u16 {
         return 0;
     }
     1
@@ -280,7 +281,7 @@ fn count_heads(s: &[u8], z: Shape) -> usize
         count += head_at(s, z, b);
         b += 1;
     }
-    count
+    count as usize
 }
 
 // 1 for a live node whose link leads to something, and 0 for any other; `t` is its tag.

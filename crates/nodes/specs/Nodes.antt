@@ -80,7 +80,7 @@ pub record Room (z : Shape) (s : List ℕ) : Type 0 where
   pub some-room : 1 ≤ z .room
   pub some-buckets : 1 ≤ z .buckets
   pub few : z .room + 4 < 65536
-  pub few-buckets : z .buckets ≤ 4294967296
+  pub few-buckets : z .buckets < 4294967296
   pub fits : used z ≤ length s
 
 -- v was written to cell i of f, and nothing else changed

@@ -9,9 +9,19 @@ ghost use Rattle.pool.specs.Relist.{CanRelist, Relisted};
 ghost use Rattle.pool.specs.Entry.{Entered};
 use nodes::Shape;
 
-// Takes node x out of list t and puts it at the head of list u. Where both are one list, its links alone
-// are written. The index is left to the callers.
+// Takes node x out of list t and puts it at the head of list u. The index is left to the callers.
 fn relist(s: &mut [u8], z: Shape, t: usize, u: usize, x: usize)
+    requires { ⌜ Room z (now s) ⌝ }
+    requires { ⌜ CanRelist z (now s) t u x ⌝ }
+    ensures { λ _. ⌜ Relisted z (now (s .entry)) (now (s .exit)) t u x ⌝ }
+{
+    lists::detach(s, z, t, x);
+    lists::attach(s, z, u, x);
+}
+
+// The same, by six links and nothing else where both are one list. It stands apart, so that the callers
+// whose lists differ test nothing.
+fn bring(s: &mut [u8], z: Shape, t: usize, u: usize, x: usize)
     requires { ⌜ Room z (now s) ⌝ }
     requires { ⌜ CanRelist z (now s) t u x ⌝ }
     ensures { λ _. ⌜ Relisted z (now (s .entry)) (now (s .exit)) t u x ⌝ }
@@ -19,8 +29,7 @@ fn relist(s: &mut [u8], z: Shape, t: usize, u: usize, x: usize)
     if t == u {
         lists::to_front(s, z, t, x);
     } else {
-        lists::detach(s, z, t, x);
-        lists::attach(s, z, u, x);
+        relist(s, z, t, u, x);
     }
 }
 
@@ -30,7 +39,7 @@ pub fn move_to(s: &mut [u8], z: Shape, t: usize, u: usize, x: usize)
     requires { ⌜ CanMove z (now s) t u x ⌝ }
     ensures { λ _. ⌜ Moved z (now (s .entry)) (now (s .exit)) t u x ⌝ }
 {
-    relist(s, z, t, u, x);
+    bring(s, z, t, u, x);
 }
 
 // Frees node x of list t: its key is found no more.

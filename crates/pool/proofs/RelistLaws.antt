@@ -34,11 +34,11 @@ module _ {z : Shape} {s : List ℕ} {t u x : ℕ} (k : CanRelist z s t u x) wher
     pub relisted : {s₂ : List ℕ} → Attached z s₁ s₂ u x → Relisted z s s₂ t u x
     relisted p = relisted-by (p .columns ∙ ap (λ (c : Cols). attached z c u x) (w .columns))
 
-  -- ---- within a list
+-- ---- within a list
 
+module _ {z : Shape} {s : List ℕ} {t x : ℕ} (k : CanRelist z s t t x) where
   pub relist-front : CanFront z s t x
   relist-front = can-front (k .lists) (k .from) (k .among)
 
-  pub relisted-front : {s′ : List ℕ} → t ≡ u → ToFront z s s′ t x → Relisted z s s′ t u x
-  relisted-front e w =
-      relisted-by (w .columns ∙ front-same (k .lists) (k .from) (k .among) ∙ ap (λ (i : ℕ). attached z (detached (cols z s) t x) i x) e)
+  pub relisted-front : {s′ : List ℕ} → ToFront z s s′ t x → Relisted z s s′ t t x
+  relisted-front w = relisted-by k (w .columns ∙ front-same (k .lists) (k .from) (k .among))

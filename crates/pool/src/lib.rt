@@ -19,27 +19,22 @@ fn relist(s: &mut [u8], z: Shape, t: usize, u: usize, x: usize)
     lists::attach(s, z, u, x);
 }
 
-// The same, by six links and nothing else where both are one list. It stands apart, so that the callers
-// whose lists differ test nothing.
-fn bring(s: &mut [u8], z: Shape, t: usize, u: usize, x: usize)
-    requires { ⌜ Room z (now s) ⌝ }
-    requires { ⌜ CanRelist z (now s) t u x ⌝ }
-    ensures { λ _. ⌜ Relisted z (now (s .entry)) (now (s .exit)) t u x ⌝ }
-{
-    if t == u {
-        lists::to_front(s, z, t, x);
-    } else {
-        relist(s, z, t, u, x);
-    }
-}
-
-// Moves node x from list t to the head of list u, which may be the same. It keeps its entry.
+// Moves node x from list t to the head of list u. It keeps its entry.
 pub fn move_to(s: &mut [u8], z: Shape, t: usize, u: usize, x: usize)
     requires { ⌜ Room z (now s) ⌝ }
     requires { ⌜ CanMove z (now s) t u x ⌝ }
     ensures { λ _. ⌜ Moved z (now (s .entry)) (now (s .exit)) t u x ⌝ }
 {
-    bring(s, z, t, u, x);
+    relist(s, z, t, u, x);
+}
+
+// Moves node x to the head of its own list: the same as a move from list t to list t, by six links and nothing else.
+pub fn move_to_head(s: &mut [u8], z: Shape, t: usize, x: usize)
+    requires { ⌜ Room z (now s) ⌝ }
+    requires { ⌜ CanMove z (now s) t t x ⌝ }
+    ensures { λ _. ⌜ Moved z (now (s .entry)) (now (s .exit)) t t x ⌝ }
+{
+    lists::to_front(s, z, t, x);
 }
 
 // Frees node x of list t: its key is found no more.

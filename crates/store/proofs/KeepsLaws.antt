@@ -1,6 +1,6 @@
 -- What holds of a store after a move: its lists, index and numbers are as they should be, and the state is another.
 -- Assumes nothing.
-use mathlib.Core.Path.{_≡_, refl, sym, ap, ap₂, _∙_}
+use mathlib.Core.Path.{_≡_, refl, sym, ap, ap₂, _∙_, subst}
 use mathlib.Core.List.{List, [], _∷_, _++_, map, head-eq-of-cons-eq, tail-eq-of-cons-eq}
 use Prim.Native.Nat.{ℕ, _+_, _≤_, _<_}
 use native.Mathlib.Omega.{arith}
@@ -225,6 +225,15 @@ module _ {z : Shape} {s s′ : List ℕ} (k : Keeps z s) (n : length s′ ≡ le
             ∙ ap (λ (e : Entry). putAt q (map (entryAt (cols z s)) (h .front)) (withFreq v e ∷ []) (map (entryAt (cols z s)) (h .back)) (stateIn z s)) (h .here)
             ∙ ap₂ (λ l r. putAt q l (withFreq v y ∷ []) r (stateIn z s)) (h .before) (h .after));
       }
+
+-- ---- to Main's head from Main
+
+module _ {z : Shape} {s : List ℕ} {t x : ℕ} (e : t ≡ listNo Main) where
+  pub move-in-main : CanMove z s t (listNo Main) x → CanMove z s t t x
+  move-in-main k = subst (λ (u : ℕ). CanMove z s t u x) (sym e) k
+
+  pub moved-in-main : {s′ : List ℕ} → Moved z s s′ t t x → Moved z s s′ t (listNo Main) x
+  moved-in-main {s′} m = subst (λ (u : ℕ). Moved z s s′ t u x) e m
 
 -- ---- one move after the other
 

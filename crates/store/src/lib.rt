@@ -6,8 +6,8 @@ ghost use Prim.Native.Nat.{_≤_, _<_};
 ghost use lib.ListN.{length};
 ghost use Rattle.cells.specs.Decides.{Decides};
 ghost use Rattle.nodes.specs.Nodes.{Room};
-ghost use Rattle.pool.specs.Carries.{Pooled};
-ghost use Rattle.rules.specs.State.{queueOf, Fine};
+ghost use Rattle.pool.specs.Carries.{Pooled, CanMove, Moved};
+ghost use Rattle.rules.specs.State.{Queue, queueOf, Fine};
 ghost use Rattle.rules.specs.Refusals.{storeBytes};
 ghost use Rattle.sizing.specs.Answers.{limitsOf};
 ghost use Rattle.store.specs.Holds.{listNo, stateIn, shapeFor, Keeps, Held};
@@ -198,12 +198,25 @@ pub fn remove_at(s: &mut [u8], z: Shape, q: QueueKind, x: usize)
     pool::release(s, z, list_of(q), x);
 }
 
+// Moves node x of list t to Main's head. Most that come there were in Main, so that its tail goes to its head: then
+// no length and no tag changes.
+fn move_to_main(s: &mut [u8], z: Shape, t: usize, x: usize)
+    requires { ⌜ Room z (now s) × CanMove z (now s) t (listNo Queue.Main) x ⌝ }
+    ensures { λ _. ⌜ Moved z (now (s .entry)) (now (s .exit)) t (listNo Queue.Main) x ⌝ }
+{
+    if t == lists::MAIN {
+        pool::move_to_head(s, z, t, x);
+    } else {
+        pool::move_to(s, z, t, lists::MAIN, x);
+    }
+}
+
 // The entry of a queue at a node goes to Main's head with another frequency.
 pub fn reattach_main_head(s: &mut [u8], z: Shape, q: QueueKind, x: usize, n: usize)
     requires { ⌜ Keeps z (now s) × Seated z (now s) (queueKind q) x × (n < 256) ⌝ }
     ensures { λ _. ⌜ Reattached z (now (s .entry)) (now (s .exit)) (queueKind q) x n ⌝ }
 {
-    pool::move_to(s, z, list_of(q), lists::MAIN, x);
+    move_to_main(s, z, list_of(q), x);
     nodes::set_freq(s, z, x, n);
 }
 
@@ -236,7 +249,7 @@ pub fn move_to_front(s: &mut [u8], z: Shape, x: usize)
     requires { ⌜ Keeps z (now s) × GhostSeated z (now s) x ⌝ }
     ensures { λ _. ⌜ Fronted z (now (s .entry)) (now (s .exit)) x ⌝ }
 {
-    pool::move_to(s, z, lists::GHOSTS, lists::GHOSTS, x);
+    pool::move_to_head(s, z, lists::GHOSTS, x);
 }
 
 // A new ghost goes in front. Its node's value is of no account.

@@ -71,7 +71,7 @@ pub record EndOk (z : Shape) (c : Cols) : Type 0 where
 abbrev pub CleanIn : Shape → Cols → ℕ → ℕ → Type 0
 CleanIn z c b h = Clean (z .room) (z .buckets) (col (c Key)) (col (c Chain)) (LiveIn z c) b h
 
--- it does, and has m nodes
+-- the chain from the link h is so, and has m nodes
 pub record CleanHas (z : Shape) (c : Cols) (b h m : ℕ) : Type 0 where
   pub clean : CleanIn z c b h
   pub size : length (clean .whole .nodes) ≡ m

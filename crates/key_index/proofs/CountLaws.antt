@@ -3,12 +3,12 @@
 use mathlib.Core.Path.{_≡_, refl, sym, _∙_, ap}
 use mathlib.Core.List.{List, [], _∷_}
 use mathlib.Core.Logic.{inl, inr, _≢_}
-use Prim.Native.Nat.{ℕ, zero, suc, _+_, _≤_, _<_}
+use Prim.Native.Nat.{ℕ, zero, suc, _+_, _%_, _≤_, _<_}
 use native.Mathlib.Omega.{arith}
 use native.Mathlib.Decide.{ℕ-discrete}
 use lib.ListN.{length, getD}
 use Rattle.cells.proofs.MembersLaws.{Nodup}
-use mir.Syntax.{w16, w32}
+use mir.Syntax.{w32}
 use mir.Val.{Fits}
 use Rattle.nodes.specs.Nodes.{Chain, Queue, Bucket, Cols, cols, Room, GetsField}
 use Rattle.nodes.specs.declared.Shape.{Shape}
@@ -84,16 +84,13 @@ tag-live e = weighs-yes e
 pub weighs-tag : (z : Shape) (s : List ℕ) {x t r : ℕ} → GetsField z s Queue x t → Weighs itself t r → Weighs (lives (cols z s)) x r
 weighs-tag z s tag w = record { number = w .number ∙ ap oneIf (tag .value); small = w .small }
 
--- the end of chains is a number of two bytes
-pub room-fits : (z : Shape) (s : List ℕ) → Room z s → Fits w16 (z .room)
-room-fits z s r = omega (arith, r .few)
+-- the end of chains is a number of two bytes, so that nothing is lost where it is cut to them
+module _ (z : Shape) (s : List ℕ) (room : Room z s) {b h : ℕ} (is : GetsField z s Bucket b h) where
+  pub weighs-empty : h ≡ z .room % 65536 → Weighs (leads z (cols z s)) b 0
+  weighs-empty e = weighs-no (omega (arith, is .value, e, room .few))
 
-module _ (z : Shape) (s : List ℕ) {b h : ℕ} (is : GetsField z s Bucket b h) where
-  pub weighs-empty : h ≡ z .room → Weighs (leads z (cols z s)) b 0
-  weighs-empty e = weighs-no (omega (arith, is .value, e))
-
-  pub weighs-leads : (h ≡ z .room → ⊥) → Weighs (leads z (cols z s)) b 1
-  weighs-leads e = weighs-yes (λ q. e (omega (arith, is .value, q)))
+  pub weighs-leads : (h ≡ z .room % 65536 → ⊥) → Weighs (leads z (cols z s)) b 1
+  weighs-leads e = weighs-yes (λ q. e (omega (arith, is .value, q, room .few)))
 
 given-no : (a b : ℕ) → a ≡ 0 → given a b ≡ 0
 given-no zero b e = refl

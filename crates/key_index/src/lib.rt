@@ -258,13 +258,13 @@ fn one_if(t: usize) -> usize
     1
 }
 
-// 1 for a head that leads to something, and 0 for the end of chains. Both fit two bytes, and are compared as
-// such: so compiled code takes many heads at a time.
+// 1 for a head that leads to something, and 0 for the end of chains. Both are numbers of two bytes, and are compared as
+// such, by the remainder: so compiled code takes many heads at a time.
 fn head_at(s: &[u8], z: Shape, b: usize) -> u32
     requires { ⌜ Room z (now s) × (b < z .buckets) ⌝ }
     ensures { λ r. ⌜ Weighs (leads z (cols z (now (s .entry)))) b r ⌝ }
 {
-    if nodes::bucket_of(s, z, b) as u16 == z.room as u16 {
+    if nodes::bucket_of(s, z, b) as u16 == (z.room % 0x1_0000) as u16 {
         return 0;
     }
     1

@@ -27,8 +27,9 @@ use Rattle.soundness.specs.declared.Checked.the-variants.{Sound as Sound·, Dam
 use Rattle.soundness.specs.Checks.{Checks}
 use Rattle.rules.specs.declared.Turned.the-variants.{ShortStore, DamagedStore, LongRequests, BadRecord, NoRoom}
 use Rattle.wire.specs.CarriedOut.{HasRoom}
+use Rattle.s3_fifo.specs.declared.Ran.{Ran}
 use Rattle.s3_fifo.specs.declared.Ran.the-variants.{Done, Refused}
-use Rattle.s3_fifo.specs.Runs.{Runs}
+use Rattle.s3_fifo.specs.Runs.{Runs, TurnsAway}
 use Rattle.s3_fifo.specs.Calls.{gave, Called}
 
 -- ---- what the survey says of the verdict's rows
@@ -133,3 +134,15 @@ module _ {z : Shape} {s : List ℕ} (b : storeBytes ≤ length s) (h : Held z s)
                 );
             untouched = x .untouched;
           }
+
+-- ---- requests that are too long
+
+module _ {s q : List ℕ} (b : storeBytes ≤ length s) {r : Checked} (c : Checks s r) where
+  pub long-damaged : r ≡ Damaged → TurnsAway s q (Refused DamagedStore)
+  long-damaged e = record { called = called-damaged b c e q }
+
+  pub long-sound : {z : Shape} → r ≡ Sound· z → mostRequestBytes < length q → TurnsAway s q (Refused LongRequests)
+  long-sound e l = record { called = λ p. called-long b (checked-held c e) q p l }
+
+pub turned-away : {s q : List ℕ} {a : Ran} → TurnsAway s q a → (p : List ℕ) → Called s q p a s p
+turned-away t = t .called

@@ -1,5 +1,5 @@
-pub mod Runs
 pub mod Calls
+pub mod Runs
 pub mod Once
 pub mod Chains
 pub mod Promises

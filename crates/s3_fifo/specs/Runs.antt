@@ -1,4 +1,4 @@
--- What carrying out a list of requests leaves in the store that held a state, and in the reply buffer.
+-- The parts of a call: what carrying out a list of requests leaves in the store that held a state, and in the reply buffer; and what turns all away.
 -- Assumes nothing.
 use mathlib.Core.Path.{_≡_}
 use mathlib.Core.List.{List}
@@ -9,6 +9,8 @@ use Rattle.nodes.specs.declared.Shape.{Shape}
 use Rattle.rules.specs.Records.{Request, AllPeeks}
 use Rattle.wire.specs.CarriedOut.{CarriedOut}
 use Rattle.store.specs.Holds.{stateIn, Held}
+use Rattle.s3_fifo.specs.declared.Ran.{Ran}
+use Rattle.s3_fifo.specs.Calls.{Called}
 
 -- rs were carried out on the store s, which became s′, and on the buffer p, which became p′, from `out` to r; peeks alone change no byte of the store
 pub record Runs (z : Shape) (s s′ : List ℕ) (rs : List Request) (p p′ : List ℕ) (out r : ℕ) : Type 0 where
@@ -17,3 +19,7 @@ pub record Runs (z : Shape) (s s′ : List ℕ) (rs : List Request) (p p′ : Li
   pub rest : cols z s′ Rest ≡ cols z s Rest
   pub same : length s′ ≡ length s
   pub untouched : AllPeeks rs → s′ ≡ s
+
+-- a call on the store s with the requests q is answered by r, and changes nothing, whatever the reply buffer held
+pub record TurnsAway (s q : List ℕ) (r : Ran) : Type 0 where
+  pub called : (p : List ℕ) → Called s q p r s p

@@ -1,18 +1,18 @@
 // The mapping cache's whole calls (RULES 7): creation, and running requests, as functions of the cache's own type. They ask nothing of their
 // caller: every byte that is lent is checked here, a call is turned away exactly in the cases of the table of refusals (RULES 8), and then no byte has changed.
 ghost use mathlib.Core.Path.{_≡_};
-ghost use Prim.Native.Nat.{_+_, _≤_};
+ghost use Prim.Native.Nat.{_+_, _≤_, _<_};
 ghost use lib.ListN.{length};
 ghost use Rattle.rules.specs.Bytes.{encodeAll, parseFrom};
 ghost use Rattle.rules.specs.Sizing.{defaultsFor};
-ghost use Rattle.rules.specs.Refusals.{storeBytes};
+ghost use Rattle.rules.specs.Refusals.{storeBytes, mostRequestBytes};
 ghost use Rattle.sizing.specs.Answers.{asksOf};
 ghost use Rattle.wire.specs.Wire.{Wrote};
 ghost use Rattle.wire.specs.CarriedOut.{HasRoom};
 ghost use Rattle.evict.specs.Evicts.{pushedOf};
 ghost use Rattle.requests.specs.Answers.{spokenOf};
 ghost use Rattle.store.specs.Holds.{Held};
-ghost use Rattle.s3_fifo.specs.Runs.{Runs};
+ghost use Rattle.s3_fifo.specs.Runs.{Runs, TurnsAway};
 ghost use Rattle.s3_fifo.specs.Calls.{Created, Called};
 use evict::Pushed;
 use requests::Spoken;
@@ -91,14 +91,25 @@ fn run_from(
     }
 }
 
+// A call whose requests are too long, on a store that is long enough: which of the two is turned away, since a damaged store
+// comes first. That this is a second place to check from keeps the check a function of its own in what is compiled: within the
+// loop over the requests it would take the registers that the loop needs (docs/SPEED.md).
+fn refuse_long(store: &[u8], requests: &[u8]) -> Ran
+    requires { ⌜ (storeBytes ≤ length (now store)) × (mostRequestBytes < length (now requests)) ⌝ }
+    ensures { λ r. ⌜ TurnsAway (now (store .entry)) (now (requests .entry)) r ⌝ }
+{
+    let checked = soundness::check(store);
+    match checked {
+        Checked::Damaged => Ran::Refused(Turned::DamagedStore),
+        Checked::Sound(_) => Ran::Refused(Turned::LongRequests),
+    }
+}
+
 // A call on a store that holds a state: what its requests are turned away for, or their run.
 fn run_sound(store: &mut [u8], z: Shape, requests: &[u8], replies: &mut [u8]) -> Ran
-    requires { ⌜ Held z (now store) × (storeBytes ≤ length (now store)) ⌝ }
+    requires { ⌜ Held z (now store) × (storeBytes ≤ length (now store)) × (length (now requests) ≤ mostRequestBytes) ⌝ }
     ensures { λ r. ⌜ Called (now (store .entry)) (now (requests .entry)) (now (replies .entry)) r (now (store .exit)) (now (replies .exit)) ⌝ }
 {
-    if rules::MOST_REQUEST_BYTES < requests.len() {
-        return Ran::Refused(Turned::LongRequests);
-    }
     let survey = wire::survey_all(requests);
     let stop = survey.stop;
     match stop {
@@ -165,6 +176,9 @@ impl S3FifoCache {
     {
         if store.len() < S3FifoCache::STORE_BYTES {
             return Ran::Refused(Turned::ShortStore);
+        }
+        if rules::MOST_REQUEST_BYTES < requests.len() {
+            return refuse_long(store, requests);
         }
         let checked = soundness::check(store);
         match checked {

@@ -25,9 +25,9 @@ use Rattle.store.proofs.HoldsLaws.{held-holds, limits-shown}
 use Rattle.soundness.specs.declared.Checked.{Checked}
 use Rattle.soundness.specs.declared.Checked.the-variants.{Sound as Sound·, Damaged}
 use Rattle.soundness.specs.Checks.{Checks}
+use Rattle.rules.specs.declared.Turned.{Turned}
 use Rattle.rules.specs.declared.Turned.the-variants.{ShortStore, DamagedStore, LongRequests, BadRecord, NoRoom}
 use Rattle.wire.specs.CarriedOut.{HasRoom}
-use Rattle.s3_fifo.specs.declared.Ran.{Ran}
 use Rattle.s3_fifo.specs.declared.Ran.the-variants.{Done, Refused}
 use Rattle.s3_fifo.specs.Runs.{Runs, TurnsAway}
 use Rattle.s3_fifo.specs.Calls.{gave, Called}
@@ -138,11 +138,11 @@ module _ {z : Shape} {s : List ℕ} (b : storeBytes ≤ length s) (h : Held z s)
 -- ---- requests that are too long
 
 module _ {s q : List ℕ} (b : storeBytes ≤ length s) {r : Checked} (c : Checks s r) where
-  pub long-damaged : r ≡ Damaged → TurnsAway s q (Refused DamagedStore)
+  pub long-damaged : r ≡ Damaged → TurnsAway s q DamagedStore
   long-damaged e = record { called = called-damaged b c e q }
 
-  pub long-sound : {z : Shape} → r ≡ Sound· z → mostRequestBytes < length q → TurnsAway s q (Refused LongRequests)
+  pub long-sound : {z : Shape} → r ≡ Sound· z → mostRequestBytes < length q → TurnsAway s q LongRequests
   long-sound e l = record { called = λ p. called-long b (checked-held c e) q p l }
 
-pub turned-away : {s q : List ℕ} {a : Ran} → TurnsAway s q a → (p : List ℕ) → Called s q p a s p
+pub turned-away : {s q : List ℕ} {t : Turned} → TurnsAway s q t → (p : List ℕ) → Called s q p (Refused t) s p
 turned-away t = t .called

@@ -9,7 +9,8 @@ use Rattle.nodes.specs.declared.Shape.{Shape}
 use Rattle.rules.specs.Records.{Request, AllPeeks}
 use Rattle.wire.specs.CarriedOut.{CarriedOut}
 use Rattle.store.specs.Holds.{stateIn, Held}
-use Rattle.s3_fifo.specs.declared.Ran.{Ran}
+use Rattle.rules.specs.declared.Turned.{Turned}
+use Rattle.s3_fifo.specs.declared.Ran.the-variants.{Refused}
 use Rattle.s3_fifo.specs.Calls.{Called}
 
 -- rs were carried out on the store s, which became s′, and on the buffer p, which became p′, from `out` to r; peeks alone change no byte of the store
@@ -20,6 +21,6 @@ pub record Runs (z : Shape) (s s′ : List ℕ) (rs : List Request) (p p′ : Li
   pub same : length s′ ≡ length s
   pub untouched : AllPeeks rs → s′ ≡ s
 
--- a call on the store s with the requests q is answered by r, and changes nothing, whatever the reply buffer held
-pub record TurnsAway (s q : List ℕ) (r : Ran) : Type 0 where
-  pub called : (p : List ℕ) → Called s q p r s p
+-- a call on the store s with the requests q is turned away for t, and changes nothing, whatever the reply buffer held
+pub record TurnsAway (s q : List ℕ) (t : Turned) : Type 0 where
+  pub called : (p : List ℕ) → Called s q p (Refused t) s p

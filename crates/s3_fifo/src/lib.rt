@@ -91,17 +91,17 @@ fn run_from(
     }
 }
 
-// A call whose requests are too long, on a store that is long enough: which of the two is turned away, since a damaged store
-// comes first. That this is a second place to check from keeps the check a function of its own in what is compiled: within the
-// loop over the requests it would take the registers that the loop needs (docs/SPEED.md).
-fn refuse_long(store: &[u8], requests: &[u8]) -> Ran
+// What a call whose requests are too long is turned away for: a damaged store comes first. That this is a second place to check
+// from keeps the check a function of its own in what is compiled: within the loop over the requests it would take the registers
+// that the loop needs (docs/SPEED.md).
+fn refusal_of_long(store: &[u8], requests: &[u8]) -> Turned
     requires { ⌜ (storeBytes ≤ length (now store)) × (mostRequestBytes < length (now requests)) ⌝ }
     ensures { λ r. ⌜ TurnsAway (now (store .entry)) (now (requests .entry)) r ⌝ }
 {
     let checked = soundness::check(store);
     match checked {
-        Checked::Damaged => Ran::Refused(Turned::DamagedStore),
-        Checked::Sound(_) => Ran::Refused(Turned::LongRequests),
+        Checked::Damaged => Turned::DamagedStore,
+        Checked::Sound(_) => Turned::LongRequests,
     }
 }
 
@@ -178,7 +178,7 @@ impl S3FifoCache {
             return Ran::Refused(Turned::ShortStore);
         }
         if rules::MOST_REQUEST_BYTES < requests.len() {
-            return refuse_long(store, requests);
+            return Ran::Refused(refusal_of_long(store, requests));
         }
         let checked = soundness::check(store);
         match checked {

@@ -1,14 +1,14 @@
--- `s3_fifo::refuse_long` meets its contract.
+-- `s3_fifo::refusal_of_long` meets its contract.
 -- Assumes nothing.
 use borrow.Author.Needs.{needs}
 use Rattle.s3_fifo.proofs.CallLaws.{long-damaged, long-sound}
-use Rattle.s3_fifo.proofs.refuse_long.Statement.{statement}
-use Rattle.s3_fifo.proofs.refuse_long.Tie as tie
+use Rattle.s3_fifo.proofs.refusal_of_long.Statement.{statement}
+use Rattle.s3_fifo.proofs.refusal_of_long.Tie as tie
 
 ruleset laws = (needs, long-damaged, long-sound)
 
-pub refuse-long-spec : {M : Type 1} → statement M
-refuse-long-spec =
+pub refusal-of-long-spec : {M : Type 1} → statement M
+refusal-of-long-spec =
     tie.close
     (tie.spec
     (λ c κs. search needs)

@@ -33,7 +33,7 @@ fn main() -> ExitCode {
 fn all(requests: u64) -> Result<(), String> {
     println!("Processor: {}", machine());
     print_times(requests);
-    print_checks();
+    print_stores();
     match instructions::possible() {
         true => print_instructions(COUNTED_REQUESTS.min(requests)),
         false => {
@@ -65,10 +65,14 @@ fn print_times(requests: u64) {
     }
 }
 
-fn print_checks() {
+fn print_stores() {
     println!("\nThe check of a store, of eight in turn:\n\n| store | microseconds |\n|---|---|");
     for kind in stores::kinds() {
         println!("| {} | {:.1} |", kind.name(), kind.check().as_nanos() as f64 / 1000.0);
+    }
+    println!("\nA lookup in a full store, calls of at most 32,768 bytes:\n\n| store | ns |\n|---|---|");
+    for kind in stores::FULL {
+        println!("| {} | {} |", kind.name(), kind.lookup().as_nanos());
     }
 }
 

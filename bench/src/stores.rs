@@ -1,7 +1,7 @@
-//! Stores to check, eight of a kind: a processor learns the branches of one that is checked over and over, and a host has
-//! many. The check is timed by calls of one peek, over the eight in turn.
+//! Stores of some kinds, to time what depends on their keys: the check, and a lookup. The check is timed by calls of one peek
+//! over eight stores in turn: a processor learns the branches of one that is checked over and over, and a host has many.
 
-use crate::input::{CAPACITIES, Input, PATTERNS, Pattern, calls, input};
+use crate::input::{CAPACITIES, Input, PATTERNS, Pattern, SEED, calls, input};
 use crate::sides::{Ours, Side};
 use crate::times::best_of_rounds;
 use common::Random;
@@ -29,34 +29,49 @@ pub enum Kind {
     OneBucket,
 }
 
+pub const FULL: [Kind; 3] = [Kind::Counted, Kind::Drawn, Kind::OneBucket];
+
 pub fn kinds() -> impl Iterator<Item = Kind> {
     let traffic = CAPACITIES.into_iter().flat_map(|capacity| PATTERNS.map(|pattern| Kind::Traffic(capacity, pattern)));
-    traffic.chain([Kind::Empty, Kind::Counted, Kind::Drawn, Kind::OneBucket])
+    traffic.chain([Kind::Empty]).chain(FULL)
 }
 
 impl Kind {
     pub fn name(self) -> String {
         match self {
             Kind::Traffic(capacity, pattern) => format!("capacity {capacity}, {} keys", pattern.name()),
-            Kind::Empty => "capacity and ghost limit 1,024, empty".to_string(),
-            Kind::Counted => "the same, full, keys counted up".to_string(),
-            Kind::Drawn => "the same, full, random keys".to_string(),
-            Kind::OneBucket => "the same, full, all keys in one bucket".to_string(),
+            Kind::Empty => "limits 1,024 and 1,024, empty".to_string(),
+            Kind::Counted => "limits 1,024 and 1,024, full, keys counted up".to_string(),
+            Kind::Drawn => "limits 1,024 and 1,024, full, random keys".to_string(),
+            Kind::OneBucket => "limits 1,024 and 1,024, full, all keys in one bucket".to_string(),
         }
     }
 
     fn input(self, seed: u64) -> Input {
         match self {
             Kind::Traffic(capacity, pattern) => input(capacity, pattern, 100 * capacity, seed),
-            Kind::Empty => largest(0, |_| 0),
-            Kind::Counted => largest(INSERTS, |turn| seed * INSERTS + turn),
-            Kind::Drawn => {
-                let mut random = Random::new(seed);
-                largest(INSERTS, |_| random.number())
+            _ => {
+                let pairs = self.keys(seed).into_iter().zip(0..);
+                let requests = pairs.map(|(key, turn)| Request::Insert(GuestBlock(key), PhysicalBlock(turn)));
+                Input {
+                    settings: Settings { capacity: LARGEST, small_ratio: 0.1, ghost_ratio: 1.0 },
+                    calls: calls(requests),
+                }
             },
+        }
+    }
+
+    /// The keys that are inserted into a store of the largest limits: as many as fill residents and ghosts, and more.
+    fn keys(self, seed: u64) -> Vec<u64> {
+        let mut random = Random::new(seed);
+        match self {
+            Kind::Traffic(..) | Kind::Empty => Vec::new(),
+            Kind::Counted => (seed * INSERTS..(seed + 1) * INSERTS).collect(),
+            Kind::Drawn => (0..INSERTS).map(|_| random.number()).collect(),
             // The bucket follows from upper * FOLD + lower, modulo 2^32: here that is the seed (docs/STORE.md).
             Kind::OneBucket => {
-                largest(INSERTS, |upper| upper << 32 | u64::from((seed as u32).wrapping_sub((upper * FOLD) as u32)))
+                let lower = |upper: u64| (seed as u32).wrapping_sub((upper * FOLD) as u32);
+                (0..INSERTS).map(|upper| upper << 32 | u64::from(lower(upper))).collect()
             },
         }
     }
@@ -82,9 +97,16 @@ impl Kind {
         });
         all / CHECKS
     }
-}
 
-fn largest(inserts: u64, mut key: impl FnMut(u64) -> u64) -> Input {
-    let requests = (0..inserts).map(|turn| Request::Insert(GuestBlock(key(turn)), PhysicalBlock(turn)));
-    Input { settings: Settings { capacity: LARGEST, small_ratio: 0.1, ghost_ratio: 1.0 }, calls: calls(requests) }
+    /// How long a lookup takes in a full store, of the keys that were inserted, in turns that are drawn: a third are
+    /// resident, a third are ghosts, a third are gone.
+    pub fn lookup(self) -> Duration {
+        const LOOKUPS: u32 = 32_000;
+        let (inserts, keys) = (self.input(SEED), self.keys(SEED));
+        let mut random = Random::new(SEED);
+        let lookups = calls((0..LOOKUPS).map(|_| Request::Get(GuestBlock(random.pick(&keys)))));
+        let mut ours = Ours::new(&inserts);
+        ours.run(&inserts.calls, &mut |_| ());
+        best_of_rounds(|| ours.run(&lookups, &mut |_| ())) / LOOKUPS
+    }
 }

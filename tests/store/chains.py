@@ -1,12 +1,13 @@
 #!/usr/bin/env python3
 """Prints the table of docs/STORE.md on how long the index's chains are, by the formula that stands there: chains.py
 
-Each cell has the longest chain, and the average number of nodes that a successful lookup looks at, with two buckets to a key.
+Each cell has the longest chain, and the average number of nodes that a successful lookup looks at, with three buckets to a key.
 """
 import random
 from collections import Counter
 
 COUNTS = (2048, 32768)
+BUCKETS = 3
 
 
 def bucket(key, buckets):
@@ -16,7 +17,7 @@ def bucket(key, buckets):
 
 
 def cell(keys):
-    lengths = Counter(bucket(key, 2 * len(keys)) for key in keys).values()
+    lengths = Counter(bucket(key, BUCKETS * len(keys)) for key in keys).values()
     looked_at = sum(length * (length + 1) // 2 for length in lengths)
     return f"{max(lengths)} / {looked_at / len(keys):.2f}"
 

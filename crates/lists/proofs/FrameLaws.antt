@@ -32,8 +32,8 @@ same-then a b =
     }
 
 -- columns that differ from c in the lists' own fields and in the length of list t alone
-pub same-but : {c d : Cols} {t : ℕ} → t < listCount → d Key ≡ c Key → d Value ≡ c Value → d Chain ≡ c Chain → d Freq ≡ c Freq → d Bucket ≡ c Bucket → d Rest ≡ c Rest
-    → ((i : ℕ) → i ≢ 4 + t → getD (d Head) i 0 ≡ getD (c Head) i 0) → Untouched c d
+pub same-but : {c d : Cols} {t : ℕ} → t < listCount → d Key ≡ c Key → d Value ≡ c Value → d Chain ≡ c Chain → d Freq ≡ c Freq → d Bucket ≡ c Bucket
+    → d Rest ≡ c Rest → ((i : ℕ) → i ≢ 4 + t → getD (d Head) i 0 ≡ getD (c Head) i 0) → Untouched c d
 same-but b k v n q u e h =
     record {
       keys = k;

@@ -9,7 +9,7 @@ use lib.Seq.{getD-set-same, set-set, set-getD}
 use Rattle.cells.specs.Members.{Among}
 use Rattle.nodes.specs.Nodes.{Field, Head, Key, Value, Next, Prev, Chain, Queue, Freq, Bucket, Rest, Cols, cols, over}
 use Rattle.nodes.specs.declared.Shape.{Shape}
-use Rattle.lists.specs.Lists.{listCount, many, Lists, unlink, link, detached, attached, fronted, CanDetach, CanFront}
+use Rattle.lists.specs.Lists.{listCount, Lists, unlink, link, detached, attached, fronted, CanDetach, CanFront}
 use Rattle.lists.proofs.ListsLaws.{lists-take, lists-tag, lists-some, lists-first-in, can-take}
 
 -- a number that is written less one, and then plus one, is the number that stood there

@@ -6,6 +6,7 @@ ghost use Prim.Native.Nat.{_≤_, _<_};
 ghost use lib.ListN.{length};
 ghost use Rattle.cells.specs.Decides.{Decides};
 ghost use Rattle.nodes.specs.Nodes.{Room};
+ghost use Rattle.lists.specs.Lists.{listCount};
 ghost use Rattle.pool.specs.Carries.{Pooled, CanMove, Moved};
 ghost use Rattle.rules.specs.State.{Queue, queueOf, Fine};
 ghost use Rattle.rules.specs.Refusals.{storeBytes};
@@ -52,7 +53,7 @@ const GHOST_LIMIT: usize = 2;
 // The number of a queue's list.
 fn list_of(q: QueueKind) -> usize
     ensures { λ r. ⌜ r ≡ listNo (queueKind q) ⌝ }
-    ensures { λ r. ⌜ r < 4 ⌝ }
+    ensures { λ r. ⌜ r < listCount ⌝ }
 {
     match q {
         QueueKind::Small => lists::SMALL,

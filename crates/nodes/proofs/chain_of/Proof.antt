@@ -8,4 +8,5 @@ use Rattle.nodes.proofs.chain_of.Tie as tie
 pub chain-of-spec : {M : Type 1} → statement M
 chain-of-spec =
     tie.close
-    (tie.spec (λ c. search needs) (λ c. search needs) (λ c. search needs) (λ c. search needs) (λ c. search needs) (λ c κs. search needs) (λ c. search needs) (λ c. (search (needs, was-read), search needs)))
+    (tie.spec (λ c. search needs) (λ c. search needs) (λ c. search needs) (λ c. search needs) (λ c. search needs) (λ c κs. search needs)
+    (λ c. search needs) (λ c. (search (needs, was-read), search needs)))

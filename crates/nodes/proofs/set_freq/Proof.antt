@@ -8,4 +8,5 @@ use Rattle.nodes.proofs.set_freq.Tie as tie
 pub set-freq-spec : {M : Type 1} → statement M
 set-freq-spec =
     tie.close
-    (tie.spec (λ c. search needs) (λ c. search needs) (λ c. search needs) (λ c. search needs) (λ c. search needs) (λ c. search needs) (λ c κs. search needs) (λ c. search needs) (λ c. search (needs, wrote)))
+    (tie.spec (λ c. search needs) (λ c. search needs) (λ c. search needs) (λ c. search needs) (λ c. search needs) (λ c. search needs)
+    (λ c κs. search needs) (λ c. search needs) (λ c. search (needs, wrote)))

@@ -207,22 +207,29 @@ Ghosts limit 2    newest > (3) > oldest
         self.assertEqual((status, text), (1, b""))
         return said
 
+    # A store of four nodes: the columns' first bytes (docs/STORE.md).
+    KEY, NEXT, CHAIN, QUEUE, FREQ = 128, 256, 288, 304, 312
+    FREES_SENTINEL = 4
+
     def is_key_in_main(self, key, node):
-        at = 128 + 24 * node
-        return self.store[at:at + 8] == number(key) and self.store[at + 22] == 2
+        at = self.KEY + 8 * node
+        return self.store[at:at + 8] == number(key) and self.store[self.QUEUE + node] == 2
 
     def test_what_is_damaged_is_said(self):
-        node_of_1 = next(n for n in range(4) if self.is_key_in_main(1, n))
+        node = next(n for n in range(4) if self.is_key_in_main(1, n))
 
         def put(place, value):
             return lambda store: store.__setitem__(place, value)
 
         self.assertIn("the capacity is 0", self.damaged(put(0, 0)))
         self.assertIn("Small has 1 nodes, and the header says 2", self.damaged(put(8 * 5, 2)))
-        self.assertIn("frequency 4, above 3", self.damaged(put(151 + 24 * node_of_1, 4)))
-        self.assertIn("is tagged with list 1", self.damaged(put(150 + 24 * node_of_1, 1)))
-        self.assertIn("which is no node", self.damaged(put(145 + 24 * node_of_1, 255)))
-        self.assertIn("the index has", self.damaged(put(128 + 24 * node_of_1, 99)))
+        self.assertIn("frequency 4, above 3", self.damaged(put(self.FREQ + node, 4)))
+        self.assertIn("is tagged with list 1", self.damaged(put(self.QUEUE + node, 1)))
+        self.assertIn("which is no node", self.damaged(put(self.NEXT + 2 * node + 1, 255)))
+        self.assertIn("where it does not belong", self.damaged(put(self.KEY + 8 * node, 99)))
+        self.assertIn("ends with 5, not with 4", self.damaged(put(self.CHAIN + 2 * node, 5)))
+        self.assertIn("Free's sentinel has the chain 0", self.damaged(put(self.CHAIN + 2 * self.FREES_SENTINEL, 0)))
+        self.assertIn("and the list 1", self.damaged(put(self.QUEUE + self.FREES_SENTINEL, 1)))
 
     def test_what_is_no_store(self):
         self.assertIn("this is no store: it has 3 bytes", mapcache("show", given=b"abc")[2])

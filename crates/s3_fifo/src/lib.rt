@@ -140,7 +140,7 @@ impl S3FifoCache {
     pub const STORE_BYTES: usize = 61696;
 
     // The version of the interface. It stands here alone: header, wrapper and programs take it from here (tools/version).
-    pub const VERSION: [u8; 5] = *b"0.2.0";
+    pub const VERSION: [u8; 5] = *b"0.3.0";
 
     // The settings that a capacity alone stands for.
     pub fn settings(capacity: u64) -> Settings

@@ -61,14 +61,20 @@ fn ratio(random: &mut Random, capacity: u64) -> f64 {
     }
 }
 
-/// Keys from a few, so that they meet again, with the ends of their range among them.
+/// Keys from a few, so that they meet again, with the ends of their range among them, and some that share a bucket.
 fn key(random: &mut Random, keys: u64) -> GuestBlock {
     GuestBlock(match random.below(40) {
         0 => 0,
         1 => u64::MAX,
         2 => random.below(keys) << 32,
+        3..=10 => of_bucket_0(random.below(keys)),
         _ => random.below(keys),
     })
+}
+
+/// A key that falls into bucket 0, however many buckets there are: what its halves are folded to is 0 (docs/STORE.md).
+fn of_bucket_0(upper: u64) -> u64 {
+    upper << 32 | u64::from((upper as u32).wrapping_mul(2_246_822_507).wrapping_neg())
 }
 
 fn value(random: &mut Random) -> PhysicalBlock {

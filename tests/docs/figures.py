@@ -225,12 +225,14 @@ def crates():
 
 
 def ratios_of_speed():
-    """The ratios of docs/SPEED.md's table of times, by capacity."""
-    found = {}
+    """The ratios to the original in docs/SPEED.md's table of times, by capacity."""
+    found, column, width = {}, None, 0
     for line in read("docs/SPEED.md").splitlines():
         cells = [cell.strip() for cell in line.strip("|").split("|")]
-        if len(cells) == 7 and cells[0].isdigit():
-            found.setdefault(cells[0], []).append(float(cells[5]))
+        if "lookups that hit" in cells:
+            column, width = cells.index("now / original"), len(cells)
+        elif len(cells) == width and cells[0].replace(",", "").isdigit():
+            found.setdefault(cells[0].replace(",", ""), []).append(float(cells[column]))
     return found
 
 

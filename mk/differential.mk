@@ -4,7 +4,7 @@
 #   make differential SEED=7 REQUESTS=100000000  any seed, any number of requests from 1,000,000 on
 #   make departures                              the tables of docs/DIFFERENCES.md, each row tried
 #   make record                                  write crates/recorded/data and crates/ghosts' stdin and stdout anew from the original
-#   make bench                                   the tables of docs/SPEED.md
+#   make bench                                   the figures of docs/SPEED.md, on any processor
 #
 # Where the original is not there the gate goes on, since its recorded answers are compared without it. The other targets
 # need it.

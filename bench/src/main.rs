@@ -1,5 +1,5 @@
 //! The proved library and the original on the same requests in the same run: times as ratios, the check of a store
-//! alone, and instructions where valgrind is present. Prints the tables of docs/SPEED.md.
+//! alone, and instructions where valgrind is present. Prints the figures of docs/SPEED.md.
 
 mod input;
 mod instructions;

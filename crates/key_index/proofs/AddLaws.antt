@@ -2,49 +2,39 @@
 -- Assumes nothing.
 use mathlib.Core.Path.{_≡_, refl, sym, _∙_, ap}
 use mathlib.Core.List.{List, [], _∷_, _++_}
-use mathlib.Core.Logic.{_⊎_, inl, inr, ⊎-elim, _≢_}
+use mathlib.Core.Logic.{_⊎_, inl, inr, _≢_}
 use Prim.Native.Nat.{ℕ, _≤_, _<_}
 use native.Mathlib.Omega.{arith}
 use Rattle.key_index.specs.Links.{In, Links, Whole, Rises}
 use Rattle.key_index.specs.Index.{bucketOf, Bucketed, Index}
 use Rattle.key_index.specs.Walks.{last, Gap}
-use Rattle.key_index.proofs.LinksLaws.{in-append, in-cases, in-last, last-snoc, same, grow, goes-on, stays, link-in}
+use Rattle.key_index.proofs.LinksLaws.{in-append, in-last, last-snoc, same, stays, link-in}
 use Rattle.key_index.proofs.FewLaws.{links-below}
+use Rattle.key_index.proofs.PassedLaws.{Passed, passed-start, passed-next, passed-on}
 use Rattle.key_index.proofs.RisesLaws.{rises-from}
 use Rattle.key_index.proofs.IndexLaws.{bucket-below, Put, added}
 
 -- the chain from h₀ was walked up to h, over nodes with keys below k, of which p is the last
 pub record Under (n : ℕ) (key link : ℕ → ℕ) (k h₀ h p : ℕ) : Type 0 where
-  pub front : List ℕ
-  pub links : Links n link h₀ front h
-  pub at : p ≡ last n front
-  pub low : (y : ℕ) → In y front → key y < k
+  pub passed : Passed n link (λ y. key y < k) h₀ h
+  pub at : p ≡ last n (passed .front)
 
 pub under-start : {n : ℕ} {key link : ℕ → ℕ} {k h : ℕ} → Under n key link k h h n
-under-start = record { front = []; links = refl; at = refl; low = λ y i. absurd i }
+under-start = record { passed = passed-start; at = refl }
 
 module _ {n : ℕ} {key link : ℕ → ℕ} {k h₀ p : ℕ} (h : ℕ) (u : Under n key link k h₀ h p) where
   pub under-next : h < n → key h < k → Under n key link k h₀ (link h) h
-  under-next b l =
-      record {
-        front = u .front ++ h ∷ [];
-        links = grow n link h₀ (u .front) h (u .links) b;
-        at = sym (last-snoc n h (u .front));
-        low = λ y i. ⊎-elim (u .low y) (λ j. ⊎-elim (λ q. rw q l) (λ o. absurd o) j) (in-cases y (u .front) (h ∷ []) i);
-      }
-
-  pub under-whole : Whole n link h₀ → Whole n link h
-  under-whole w = let g = goes-on n link h₀ (u .front) (w .nodes) h (u .links) (w .links) in record { nodes = g .0; links = g .2 }
+  under-next b l = record { passed = passed-next h (u .passed) b l; at = sym (last-snoc n h (u .passed .front)) }
 
   pub under-gap : Whole n link h₀ → (h < n → k ≤ key h) → Gap n key link k h₀ p
   under-gap w over =
-      let g = goes-on n link h₀ (u .front) (w .nodes) h (u .links) (w .links) in
+      let g = passed-on h (u .passed) w in
       record {
-        front = u .front;
+        front = u .passed .front;
         back = g .0;
         links = rw (g .1) at (w .links);
         at = u .at;
-        low = u .low;
+        low = u .passed .each;
         high = λ y t e. let l : Links n link h (y ∷ t) n = rw e at (g .2) in rw (l .0) at (over (omega (arith, l .0, l .1)));
       }
 

@@ -9,7 +9,7 @@ use lib.ListN.{length, length-append}
 use Rattle.key_index.specs.Links.{In, Links, Rises}
 use Rattle.key_index.specs.Index.{bucketOf, Clean}
 use Rattle.key_index.specs.Walks.{LeadsUp}
-use Rattle.key_index.proofs.LinksLaws.{in-append, in-cases, first, within, grow, goes-on}
+use Rattle.key_index.proofs.LinksLaws.{in-append, each-snoc, first, within, grow, goes-on}
 use Rattle.key_index.proofs.DistinctLaws.{few}
 use Rattle.key_index.proofs.FewLaws.{links-below}
 use Rattle.key_index.proofs.RisesLaws.{rises-snoc, rises-from, rises-nodup}
@@ -50,11 +50,11 @@ module _ {n buckets : ℕ} {key link : ℕ → ℕ} {live : ℕ → Type 0} {b h
           record {
             front = w .front ++ h ∷ [];
             links = grow n link h₀ (w .front) h (w .links) below;
-            sound = λ y i. ⊎-elim (w .sound y) (λ j. ⊎-elim (λ q. rw q (l, e)) (λ o. absurd o) j) (in-cases y (w .front) (h ∷ []) i);
+            sound = each-snoc (λ y. live y × (bucketOf (key y) buckets ≡ b)) (w .front) h (w .sound) (l, e);
             rising = longer;
             low = λ y i o.
                 let a = f .above o in
-                ⊎-elim (λ j. let c = w .low y j below in omega arith) (λ j. ⊎-elim (λ q. rw q a) (λ k. absurd k) j) (in-cases y (w .front) (h ∷ []) i);
+                each-snoc (λ z. key z < key (link h)) (w .front) h (λ z j. let c = w .low z j below in omega arith) a y i;
             inside = f .within;
             size = omega (arith, w .size, length-append (w .front) (h ∷ []));
           }

@@ -3,6 +3,7 @@ pub mod DistinctLaws
 pub mod FewLaws
 pub mod RisesLaws
 pub mod IndexLaws
+pub mod PassedLaws
 pub mod FindLaws
 pub mod AddLaws
 pub mod RemoveLaws

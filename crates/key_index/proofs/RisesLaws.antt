@@ -1,7 +1,7 @@
 -- Lists of nodes along which the keys rise.
 -- Assumes nothing.
 use mathlib.Core.Path.{_≡_, refl, ap}
-use mathlib.Core.List.{List, [], _∷_, _++_}
+use mathlib.Core.List.{List, [], _∷_, _++_, append-nil}
 use mathlib.Core.Logic.{inl, inr, ⊎-elim}
 use Prim.Native.Nat.{ℕ, _≤_, _<_}
 use native.Mathlib.Omega.{arith}
@@ -26,11 +26,7 @@ module _ (key : ℕ → ℕ) where
 
   -- one node more at the end
   pub rises-snoc : (x : ℕ) (s : List ℕ) → Rises key s → ((y : ℕ) → In y s → key y < key x) → Rises key (s ++ x ∷ [])
-  rises-snoc x [] r low = (λ z i. absurd i, tt)
-  rises-snoc x (y ∷ s) r low = (
-    λ z i. ⊎-elim (λ j. r .0 z j) (λ j. ⊎-elim (λ q. rw q (low y (inl refl))) (λ k. absurd k) j) (in-cases z s (x ∷ []) i),
-    rises-snoc x s (r .1) (λ z i. low z (inr i)),
-  )
+  rises-snoc x s r low = rises-in x s [] (rw (append-nil s) r) low (λ y i. absurd i)
 
   -- behind a node the keys are above its own
   pub rises-from : (s : List ℕ) (x : ℕ) (t : List ℕ) → Rises key (s ++ x ∷ t) → (y : ℕ) → In y t → key x < key y

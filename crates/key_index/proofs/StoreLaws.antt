@@ -18,24 +18,28 @@ use Rattle.key_index.specs.Walks.{FirstIs, Goes, InFront, Gap}
 use Rattle.key_index.specs.Stored.{col, LiveIn, IndexOf, Indexes, IsFound, headOf, CanJoin, Joins, Unchains}
 use Rattle.key_index.proofs.FewLaws.{depth, depth-falls}
 use Rattle.key_index.proofs.IndexLaws.{bucket-below, Put}
-use Rattle.key_index.proofs.FindLaws.{Seen, seen-found, seen-next, seen-whole, index-whole, index-at, index-nothing}
-use Rattle.key_index.proofs.AddLaws.{Under, under-next, under-whole, under-gap, add-first, add-later}
+use Rattle.key_index.proofs.PassedLaws.{Passed, passed-next, passed-whole}
+use Rattle.key_index.proofs.FindLaws.{Seen, seen-found, index-whole, index-at, index-nothing}
+use Rattle.key_index.proofs.AddLaws.{Under, under-next, under-gap, add-first, add-later}
 use Rattle.key_index.proofs.RemoveLaws.{Way, way-cut, way-next, way-on, way-below, goes, remove-first, remove-later}
 use Rattle.key_index.proofs.LiveLaws.{put-set}
 
--- ---- the lookup's walk, which has come to the node h
+-- ---- a walk that has come to the node h has less to go from there
 
-module _ (z : Shape) (s : List ℕ) {k h₀ h : ℕ} (w : Seen (z .room) (col (cols z s Key)) (col (cols z s Chain)) k h₀ h) (b : h < z .room) where
-  module _ {r : ℕ} (is : GetsField z s Key h r) where
-    pub walk-found : r ≡ k → FirstIs (z .room) (col (cols z s Key)) (col (cols z s Chain)) k h₀ (At h)
-    walk-found e = seen-found h w b (sym (is .value) ∙ e)
+pub walk-less : (z : Shape) (s : List ℕ) {P : ℕ → Type 0} {h₀ h : ℕ} → Passed (z .room) (col (cols z s Chain)) P h₀ h → h < z .room
+    → Whole (z .room) (col (cols z s Chain)) h₀ → {m : ℕ} → GetsField z s Chain h m
+    → depth (z .room) (col (cols z s Chain)) (z .room) m < depth (z .room) (col (cols z s Chain)) (z .room) h
+walk-less z s {P} {h₀} {h} w b all on = rw (on .value) (depth-falls (z .room) (col (cols z s Chain)) h (passed-whole h w all) b)
 
-    pub walk-next : (r ≡ k → ⊥) → {m : ℕ} → GetsField z s Chain h m → Seen (z .room) (col (cols z s Key)) (col (cols z s Chain)) k h₀ m
-    walk-next ne on = rw (on .value) (seen-next h w b (λ e. ne (is .value ∙ e)))
+-- ---- the lookup's walk
 
-  pub walk-less : Whole (z .room) (col (cols z s Chain)) h₀ → {m : ℕ} → GetsField z s Chain h m
-      → depth (z .room) (col (cols z s Chain)) (z .room) m < depth (z .room) (col (cols z s Chain)) (z .room) h
-  walk-less all on = rw (on .value) (depth-falls (z .room) (col (cols z s Chain)) h (seen-whole h w all) b)
+module _ (z : Shape) (s : List ℕ) {k h₀ h : ℕ} (w : Seen (z .room) (col (cols z s Key)) (col (cols z s Chain)) k h₀ h) (b : h < z .room)
+    {r : ℕ} (is : GetsField z s Key h r) where
+  pub walk-found : r ≡ k → FirstIs (z .room) (col (cols z s Key)) (col (cols z s Chain)) k h₀ (At h)
+  walk-found e = seen-found h w b (sym (is .value) ∙ e)
+
+  pub walk-next : (r ≡ k → ⊥) → {m : ℕ} → GetsField z s Chain h m → Seen (z .room) (col (cols z s Key)) (col (cols z s Chain)) k h₀ m
+  walk-next ne on = rw (on .value) (passed-next h w b (λ e. ne (is .value ∙ e)))
 
 -- ---- the walk to a key's place, which has come to the node h behind p
 
@@ -43,17 +47,12 @@ module _ (z : Shape) (s : List ℕ) {k h₀ h p : ℕ} (w : Under (z .room) (col
   pub place-end : Whole (z .room) (col (cols z s Chain)) h₀ → z .room ≤ h → Gap (z .room) (col (cols z s Key)) (col (cols z s Chain)) k h₀ p
   place-end all out = under-gap h w all (λ b. absurd (omega arith))
 
-  module _ (b : h < z .room) where
-    module _ {r : ℕ} (is : GetsField z s Key h r) where
-      pub place-found : Whole (z .room) (col (cols z s Chain)) h₀ → k ≤ r → Gap (z .room) (col (cols z s Key)) (col (cols z s Chain)) k h₀ p
-      place-found all e = under-gap h w all (λ _. rw (is .value) at e)
+  module _ (b : h < z .room) {r : ℕ} (is : GetsField z s Key h r) where
+    pub place-found : Whole (z .room) (col (cols z s Chain)) h₀ → k ≤ r → Gap (z .room) (col (cols z s Key)) (col (cols z s Chain)) k h₀ p
+    place-found all e = under-gap h w all (λ _. rw (is .value) at e)
 
-      pub place-next : r < k → {m : ℕ} → GetsField z s Chain h m → Under (z .room) (col (cols z s Key)) (col (cols z s Chain)) k h₀ m h
-      place-next l on = rw (on .value) (under-next h w b (rw (is .value) at l))
-
-    pub place-less : Whole (z .room) (col (cols z s Chain)) h₀ → {m : ℕ} → GetsField z s Chain h m
-        → depth (z .room) (col (cols z s Chain)) (z .room) m < depth (z .room) (col (cols z s Chain)) (z .room) h
-    place-less all on = rw (on .value) (depth-falls (z .room) (col (cols z s Chain)) h (under-whole h w all) b)
+    pub place-next : r < k → {m : ℕ} → GetsField z s Chain h m → Under (z .room) (col (cols z s Key)) (col (cols z s Chain)) k h₀ m h
+    place-next l on = rw (on .value) (under-next h w b (rw (is .value) at l))
 
 -- ---- the walk to the node in front of x, which has come to the node p
 

@@ -3,9 +3,9 @@
 // in the order of their keys. The number of nodes ends a chain. It is a sentinel's: that leads to itself
 // and is free, so that of the end of a chain may be read what is read of a node.
 ghost use mathlib.Core.Path.{_≡_};
-ghost use Prim.Native.Nat.{_≤_, _<_};
+ghost use Prim.Native.Nat.{_<_};
 ghost use Rattle.cells.specs.Decides.{Decides};
-ghost use Rattle.nodes.specs.Nodes.{Field, cols, Room, GetsField};
+ghost use Rattle.nodes.specs.Nodes.{tooManyBuckets, Field, cols, Room, GetsField};
 ghost use Rattle.key_index.specs.Links.{Whole};
 ghost use Rattle.key_index.specs.Index.{bucketOf};
 ghost use Rattle.key_index.specs.Walks.{FirstIs, Goes, InFront, Gap, LeadsUp};
@@ -27,7 +27,7 @@ enum Census {
 
 // The bucket of a key.
 fn bucket_of_key(k: u64, buckets: usize) -> usize
-    requires { ⌜ (0 < buckets) × (buckets ≤ 4294967296) ⌝ }
+    requires { ⌜ (0 < buckets) × (buckets < tooManyBuckets) ⌝ }
     ensures { λ r. ⌜ (r ≡ bucketOf k buckets) × (r < buckets) ⌝ }
 {
     let folded = (k / 0x1_0000_0000 * 2246822507 + k % 0x1_0000_0000) % 0x1_0000_0000;

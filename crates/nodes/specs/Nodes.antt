@@ -25,17 +25,21 @@ code Freq = 7
 code Bucket = 8
 code Rest = 9
 
--- where the buckets' heads start: behind the header and the columns of the nodes, 24 bytes to each
+-- the first byte behind the header and columns of b bytes to a node; the sentinels are nodes too
+abbrev columnAt : Shape → ℕ → ℕ
+columnAt z b = 128 + b * (z .room + 4)
+
+-- where the buckets' heads start: behind all columns of the nodes, which have 24 bytes to each
 abbrev pub heads : Shape → ℕ
-heads z = 128 + 24 * (z .room + 4)
+heads z = columnAt z 24
 
 -- how many bytes the store uses
 abbrev pub used : Shape → ℕ
 used z = heads z + 2 * z .buckets
 
--- a column of cells of w bytes, behind columns of b bytes to a node; the sentinels are nodes too
+-- a column of cells of w bytes, behind columns of b bytes to a node
 abbrev perNode : Shape → ℕ → ℕ → Span
-perNode z b w = record { start = 128 + b * (z .room + 4); stride = w; width = w; rows = z .room + 4 }
+perNode z b w = record { start = columnAt z b; stride = w; width = w; rows = z .room + 4 }
 
 -- no cells, where the store ends
 abbrev pub end : Shape → Span
@@ -75,12 +79,16 @@ over c f i v g = pick (eqb (code f) (code g)) (set (c g) i v) (c g)
 unfoldable pub withColumn : Cols → Field → List ℕ → Cols
 withColumn c f l g = pick (eqb (code f) (code g)) l (c g)
 
+-- more buckets than a key's 32 scrambled bits can tell apart
+abbrev pub tooManyBuckets : ℕ
+tooManyBuckets = 4294967296
+
 -- what every function asks of a store: there are nodes and buckets, two bytes number the nodes, and the bytes are there
 pub record Room (z : Shape) (s : List ℕ) : Type 0 where
   pub some-room : 1 ≤ z .room
   pub some-buckets : 1 ≤ z .buckets
   pub few : z .room + 4 < 65536
-  pub few-buckets : z .buckets < 4294967296
+  pub few-buckets : z .buckets < tooManyBuckets
   pub fits : used z ≤ length s
 
 -- v was written to cell i of f, and nothing else changed

@@ -10,7 +10,8 @@ const HEAD: usize = 0;
 
 const NODES: usize = 128;
 
-// How many bytes of a node are in the columns in front of each.
+// How many bytes of a node are in the columns in front of each. All addresses below have the table's one form: start of the columns,
+// this many bytes to a node, and the cell's own width for each node in front of it.
 const KEY: usize = 0;
 
 const VALUE: usize = 8;

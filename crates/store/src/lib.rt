@@ -199,8 +199,7 @@ pub fn remove_at(s: &mut [u8], z: Shape, q: QueueKind, x: usize)
     pool::release(s, z, list_of(q), x);
 }
 
-// Moves node x of list t to Main's head. Most that come there were in Main, so that its tail goes to its head: then
-// no length and no tag changes.
+// Moves node x of list t to Main's head. Where that is its own list no length and no tag changes, so its links alone are written.
 fn move_to_main(s: &mut [u8], z: Shape, t: usize, x: usize)
     requires { ⌜ Room z (now s) × CanMove z (now s) t (listNo Queue.Main) x ⌝ }
     ensures { λ _. ⌜ Moved z (now (s .entry)) (now (s .exit)) t (listNo Queue.Main) x ⌝ }

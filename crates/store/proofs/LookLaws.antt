@@ -14,6 +14,7 @@ use Rattle.cells.specs.Members.{Among}
 use Rattle.key_index.specs.Stored.{Hit, Miss, IsFound}
 use Rattle.key_index.specs.declared.Found.{Found}
 use Rattle.key_index.specs.declared.Found.the-variants.{At, Nothing}
+use Rattle.lists.specs.Lists.{listCount}
 use Rattle.pool.specs.Carries.{listsOf, Pooled, LiveList}
 use Rattle.pool.proofs.CarriesLaws.{lives-kind, lives-among, among-miss}
 use Rattle.rules.specs.Parts.{bit, total, found, splitBy}
@@ -56,7 +57,7 @@ module _ (z : Shape) (s : List ℕ) (p : Pooled z s) where
   pub miss-places : (k : ℕ) → Miss z c k → places k (stateIn z s) ≡ 0
   unfolding stateIn
   miss-places k m =
-      let kind : (t : ℕ) → 1 ≤ t → t < 4 → LiveList t = λ t a b. record { above = a; below = b } in
+      let kind : (t : ℕ) → 1 ≤ t → t < listCount → LiveList t = λ t a b. record { above = a; below = b } in
       omega (
         arith,
         count-none (entryAt c) (keyIs k) (f 1) (not-here k 1 (kind 1 (omega arith) (omega arith)) m),

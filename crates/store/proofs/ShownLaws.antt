@@ -14,6 +14,7 @@ use Rattle.nodes.proofs.OverLaws.{over-at}
 use Rattle.cells.specs.Members.{Out}
 use Rattle.lists.specs.Pool.{view}
 use Rattle.lists.proofs.ListsLaws.{lists-view, lists-node, lists-once, lists-elsewhere}
+use Rattle.lists.specs.Lists.{listCount}
 use Rattle.pool.specs.Carries.{Carries, listsOf, Pooled, Aside, Alike, Moved, Released, Filled}
 use Rattle.rules.specs.State.{Entry, Limits, Queue, Small, Main, fresh, withFreq, revalue, queueOf, setQueue, setGhosts, pushTo, putAt}
 use Rattle.store.specs.Holds.{listNo, ghostsNo, entryBy, entryAt, nodeKey, keyAt, limitsIn, shown, stateIn}
@@ -113,7 +114,7 @@ module _ (z : Shape) (s s′ : List ℕ) (k v x : ℕ) (p : Pooled z s) where
     free-node : x < z .room
     free-node = lists-node (p .carries .lists) {t = 0} (omega arith) [] x (f .left) (f .was)
 
-    apart : (i : ℕ) → i ≢ 0 → i < 4 → Out x (listsOf z (cols z s) i)
+    apart : (i : ℕ) → i ≢ 0 → i < listCount → Out x (listsOf z (cols z s) i)
     apart = lists-elsewhere (p .carries .lists) {t = 0} (omega arith) [] x (f .left) (f .was)
 
     other-entry : (y : ℕ) → y ≢ x → entryAt (cols z s′) y ≡ entryAt (cols z s) y
@@ -139,10 +140,10 @@ module _ (z : Shape) (s s′ : List ℕ) (k v x : ℕ) (p : Pooled z s) where
           getD-set-same (cols z s Freq) x 0 0 (rw (length-cols z s Freq refl) (omega arith)),
         )
 
-    same-entries : (i : ℕ) → i ≢ 0 → i < 4 → map (entryAt (cols z s′)) (listsOf z (cols z s) i) ≡ map (entryAt (cols z s)) (listsOf z (cols z s) i)
+    same-entries : (i : ℕ) → i ≢ 0 → i < listCount → map (entryAt (cols z s′)) (listsOf z (cols z s) i) ≡ map (entryAt (cols z s)) (listsOf z (cols z s) i)
     same-entries i n l = map-out (entryAt (cols z s)) (entryAt (cols z s′)) x (listsOf z (cols z s) i) (apart i n l) other-entry
 
-    same-keys : (i : ℕ) → i ≢ 0 → i < 4 → map (keyAt (cols z s′)) (listsOf z (cols z s) i) ≡ map (keyAt (cols z s)) (listsOf z (cols z s) i)
+    same-keys : (i : ℕ) → i ≢ 0 → i < listCount → map (keyAt (cols z s′)) (listsOf z (cols z s) i) ≡ map (keyAt (cols z s)) (listsOf z (cols z s) i)
     same-keys i n l = map-out (keyAt (cols z s)) (keyAt (cols z s′)) x (listsOf z (cols z s) i) (apart i n l) (λ y m. ap (λ e. e .key) (other-entry y m))
 
   -- a new resident
@@ -186,10 +187,10 @@ module _ (z : Shape) (s s′ : List ℕ) (p : Pooled z s) (q : Queue) (a : List 
   abbrev e₀ : ℕ → Entry
   e₀ = entryAt (cols z s)
 
-  own-list : listNo q < 4
+  own-list : listNo q < listCount
   own-list = below q
     where
-      below : (q : Queue) → listNo q < 4
+      below : (q : Queue) → listNo q < listCount
       below Small = omega arith
       below Main = omega arith
 
@@ -210,7 +211,7 @@ module _ (z : Shape) (s s′ : List ℕ) (p : Pooled z s) (q : Queue) (a : List 
       ∙ (let o = lists-once (p .carries .lists) own-list a x b h in map-at e₀ (entryAt (cols z s′)) a x b (o .0) (o .1) (t .others))
       ∙ ap (λ m. map e₀ a ++ (m ∷ map e₀ b)) (t .own)
 
-  touched-other : (n : Entry) → Touched n → (i : ℕ) → i ≢ listNo q → i < 4
+  touched-other : (n : Entry) → Touched n → (i : ℕ) → i ≢ listNo q → i < listCount
       → map (entryAt (cols z s′)) (listsOf z (cols z s′) i) ≡ map e₀ (listsOf z (cols z s) i)
   touched-other n t i ne l =
       ap (λ m. map (entryAt (cols z s′)) (view (z .room) m i)) (t .links-kept)

@@ -17,7 +17,7 @@ use Rattle.key_index.proofs.DistinctLaws.{fewer, onto, tight, nodup-bot
 use Rattle.key_index.proofs.DistinctLaws.{in-map, map-in, map-long, map-once, map-nodup}
 use Rattle.key_index.proofs.RisesLaws.{rises-once}
 use Rattle.key_index.proofs.IndexLaws.{bucket-below}
-use Rattle.key_index.proofs.CheckLaws.{walked-start, walk-out}
+use Rattle.key_index.proofs.WalkedLaws.{walked-start, walk-out}
 use Rattle.key_index.proofs.VouchLaws.{top, Arrow, Stands}
 
 -- `heads` are the buckets whose head leads to something, `links` the live nodes whose link does, `every` the live nodes

@@ -13,7 +13,7 @@ use mir.Val.{Fits}
 use Rattle.nodes.specs.Nodes.{Chain, Queue, Bucket, Cols, cols, Room, GetsField}
 use Rattle.nodes.specs.declared.Shape.{Shape}
 use Rattle.key_index.specs.Links.{In}
-use Rattle.key_index.specs.Test.{oneIf, countTo, Weighs, Counts, differ, given, itself, lives, leads, goesOn}
+use Rattle.key_index.specs.Check.{oneIf, countTo, Weighs, Counts, differ, given, tagLives, lives, leads, goesOn}
 use Rattle.key_index.proofs.DistinctLaws.{out-of}
 
 abbrev keep : ℕ → ℕ → List ℕ → List ℕ
@@ -75,13 +75,13 @@ weighs-no e = record { number = rw e; small = omega arith }
 weighs-yes : {t : ℕ → ℕ} {x : ℕ} → (t x ≡ 0 → ⊥) → Weighs t x 1
 weighs-yes {t} {x} f = record { number = above (t x) f; small = omega arith }
 
-pub tag-free : {t : ℕ} → t ≡ 0 → Weighs itself t 0
+pub tag-free : {t : ℕ} → t ≡ 0 → Weighs tagLives t 0
 tag-free e = weighs-no e
 
-pub tag-live : {t : ℕ} → (t ≡ 0 → ⊥) → Weighs itself t 1
+pub tag-live : {t : ℕ} → (t ≡ 0 → ⊥) → Weighs tagLives t 1
 tag-live e = weighs-yes e
 
-pub weighs-tag : (z : Shape) (s : List ℕ) {x t r : ℕ} → GetsField z s Queue x t → Weighs itself t r → Weighs (lives (cols z s)) x r
+pub weighs-tag : (z : Shape) (s : List ℕ) {x t r : ℕ} → GetsField z s Queue x t → Weighs tagLives t r → Weighs (lives (cols z s)) x r
 weighs-tag z s tag w = record { number = w .number ∙ ap oneIf (tag .value); small = w .small }
 
 -- the end of chains is a number of two bytes, so that nothing is lost where it is cut to them

@@ -8,12 +8,12 @@ pub mod FindLaws
 pub mod AddLaws
 pub mod RemoveLaws
 pub mod CountLaws
-pub mod CheckLaws
+pub mod WalkedLaws
 pub mod VouchLaws
 pub mod ArrowLaws
 pub mod LiveLaws
 pub mod StoreLaws
-pub mod TestLaws
+pub mod CheckLaws
 pub mod StandLaws
 pub mod SetUpLaws
 pub mod WriteLaws

@@ -18,8 +18,8 @@ use Rattle.key_index.specs.declared.Census.{Census}
 use Rattle.key_index.specs.declared.Census.the-variants.{Count, Broken}
 use Rattle.key_index.specs.Index.{bucketOf}
 use Rattle.key_index.specs.Stored.{col, LiveIn, Indexes}
-use Rattle.key_index.specs.Test.{Weighs, Counts, itself, lives, leads, goesOn, EndOk}
-use Rattle.key_index.specs.Test.{WalkSays, IsFirst, IsSecond, Visits}
+use Rattle.key_index.specs.Check.{Weighs, Counts, tagLives, lives, leads, goesOn, EndOk}
+use Rattle.key_index.specs.Check.{WalkSays, IsFirst, IsSecond, Visits}
 use Rattle.key_index.proofs.CountLaws.{weighs-tag, ones, ones-length, ones-are, ones-have, ones-nodup, goes-on-is}
 use Rattle.key_index.proofs.CountLaws.{is-goes-on, CountedTo, counted-start, counted-next, counted-end, counts-few}
 use Rattle.key_index.proofs.VouchLaws.{Second, Vouches, vouches-first, vouches-none, vouches-second, second-clean}
@@ -121,7 +121,7 @@ module _ (z : Shape) (s : List ℕ) {x sum live links : ℕ} (g : Standing z s x
           room .few,
         )
 
-    pub standing-next : x < z .room → {q a b : ℕ} → GetsField z s Queue x q → Weighs itself q a → Weighs (goesOn z (cols z s)) x b
+    pub standing-next : x < z .room → {q a b : ℕ} → GetsField z s Queue x q → Weighs tagLives q a → Weighs (goesOn z (cols z s)) x b
         → Standing z s (x + 1) (sum + m) (live + a) (links + b)
     standing-next h tag one w = record {
       vouched = vouching-next (z .room) (z .buckets) (col (cols z s Key)) (col (cols z s Chain)) (col (cols z s Bucket)) (LiveIn z (cols z s)) x sum m

@@ -10,7 +10,7 @@ ghost use Rattle.key_index.specs.Links.{Whole};
 ghost use Rattle.key_index.specs.Index.{bucketOf};
 ghost use Rattle.key_index.specs.Walks.{FirstIs, Goes, InFront, Gap, LeadsUp};
 ghost use Rattle.key_index.specs.Stored.{col, LiveIn, Indexes, IsFound, CanJoin, Joins, Unchains, EmptyBuckets, Empties};
-ghost use Rattle.key_index.specs.Test.{EndOk, LinkOk, WalkSays, Behind, Visits, Weighs, Counts, itself, leads, goesOn};
+ghost use Rattle.key_index.specs.Check.{EndOk, LinkOk, WalkSays, Behind, Visits, Weighs, Counts, tagLives, leads, goesOn};
 use nodes::Shape;
 
 // What a lookup finds: the node that holds the key, or that none does.
@@ -249,8 +249,8 @@ fn visit(s: &[u8], z: Shape, x: usize, t: usize) -> Census
 }
 
 // 1 for the tag of a live node, and 0 for that of a free one.
-fn one_if(t: usize) -> usize
-    ensures { λ r. ⌜ Weighs itself t r ⌝ }
+fn one_if_live(t: usize) -> usize
+    ensures { λ r. ⌜ Weighs tagLives t r ⌝ }
 {
     if t == 0 {
         return 0;
@@ -316,7 +316,7 @@ fn nodes_stand(s: &[u8], z: Shape, heads: usize) -> bool
             return false;
         };
         sum += m;
-        live += one_if(t);
+        live += one_if_live(t);
         links += link_at(s, z, x, t);
         x += 1;
     }

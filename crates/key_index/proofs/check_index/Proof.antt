@@ -1,7 +1,7 @@
 -- `key_index::check_index` meets its contract.
 -- Assumes nothing.
 use borrow.Author.Needs.{needs}
-use Rattle.key_index.proofs.TestLaws.{check-end, end-held}
+use Rattle.key_index.proofs.CheckLaws.{check-end, end-held}
 use Rattle.key_index.proofs.check_index.Statement.{statement}
 use Rattle.key_index.proofs.check_index.Tie as tie
 

@@ -1,7 +1,7 @@
 -- `key_index::end_ok` meets its contract.
 -- Assumes nothing.
 use borrow.Author.Needs.{needs}
-use Rattle.key_index.proofs.TestLaws.{end-away, end-free}
+use Rattle.key_index.proofs.CheckLaws.{end-away, end-free}
 use Rattle.key_index.proofs.end_ok.Statement.{statement}
 use Rattle.key_index.proofs.end_ok.Tie as tie
 

@@ -1,7 +1,7 @@
 -- `key_index::leads_up` meets its contract.
 -- Assumes nothing.
 use borrow.Author.Needs.{needs}
-use Rattle.key_index.proofs.TestLaws.{up-node, up-end}
+use Rattle.key_index.proofs.CheckLaws.{up-node, up-end}
 use Rattle.key_index.proofs.leads_up.Statement.{statement}
 use Rattle.key_index.proofs.leads_up.Tie as tie
 

@@ -43,8 +43,8 @@ given zero b = 0
 given (suc a) b = b
 
 -- above 0 for a tag that says that a node is live
-abbrev pub itself : ℕ → ℕ
-itself t = t
+abbrev pub tagLives : ℕ → ℕ
+tagLives t = t
 
 -- above 0 for a live node
 abbrev pub lives : Cols → ℕ → ℕ

@@ -7,7 +7,7 @@ use mathlib.Core.Bool.{cond}
 use lib.Dec.{eqb}
 use Rattle.rules.specs.declared.Turned.{Turned}
 use Rattle.rules.specs.declared.Turned.the-variants.{NoCapacity, CapacityAbove, SmallRatio, GhostRatio, GhostLimit, ShortStore, DamagedStore}
-use Rattle.rules.specs.declared.Turned.the-variants.{LongRequests, BadRecord, NoRoom}
+use Rattle.rules.specs.declared.Turned.the-variants.{LongRequests, BadRecord, NoRoom, BadCarry}
 use Rattle.rules.specs.Refusals.{numberOf, detailOf}
 
 -- the refusal that a number and a detail stand for
@@ -21,7 +21,8 @@ turnedBy n d =
     (cond (eqb n 6) ShortStore
     (cond (eqb n 7) DamagedStore
     (cond (eqb n 8) LongRequests
-    (cond (eqb n 9) (BadRecord d) (NoRoom d)))))))))
+    (cond (eqb n 9) (BadRecord d)
+    (cond (eqb n 10) (NoRoom d) BadCarry)))))))))
 
 pub turned-back : (t : Turned) → turnedBy (numberOf t) (detailOf t) ≡ t
 turned-back NoCapacity = refl
@@ -34,6 +35,7 @@ turned-back DamagedStore = refl
 turned-back LongRequests = refl
 turned-back (BadRecord at) = refl
 turned-back (NoRoom room) = refl
+turned-back BadCarry = refl
 
 pub turned-once : (t u : Turned) → numberOf t ≡ numberOf u → detailOf t ≡ detailOf u → t ≡ u
 turned-once t u n d = sym (turned-back t) ∙ ap₂ turnedBy n d ∙ turned-back u
@@ -50,3 +52,4 @@ some-number DamagedStore = omega arith
 some-number LongRequests = omega arith
 some-number (BadRecord at) = omega arith
 some-number (NoRoom room) = omega arith
+some-number BadCarry = omega arith

@@ -7,7 +7,7 @@ use mathlib.Core.List.{List, [], _∷_}
 use lib.Dec.{ltb}
 use Rattle.rules.specs.declared.Turned.{Turned}
 use Rattle.rules.specs.declared.Turned.the-variants.{NoCapacity, CapacityAbove, SmallRatio, GhostRatio, GhostLimit}
-use Rattle.rules.specs.declared.Turned.the-variants.{ShortStore, DamagedStore, LongRequests, BadRecord, NoRoom}
+use Rattle.rules.specs.declared.Turned.the-variants.{ShortStore, DamagedStore, LongRequests, BadRecord, NoRoom, BadCarry}
 use Rattle.rules.specs.Records.{Request}
 use Rattle.rules.specs.Bytes.{End, whole, unknownAt, cutAt, Parsed, roomFor}
 
@@ -30,6 +30,7 @@ numberOf DamagedStore = 7
 numberOf LongRequests = 8
 numberOf (BadRecord at) = 9
 numberOf (NoRoom room) = 10
+numberOf BadCarry = 17
 
 abbrev pub detailOf : Turned → ℕ
 detailOf NoCapacity = 0
@@ -42,6 +43,7 @@ detailOf DamagedStore = 0
 detailOf LongRequests = 0
 detailOf (BadRecord at) = at
 detailOf (NoRoom room) = room
+detailOf BadCarry = 0
 
 -- ---- when each applies
 

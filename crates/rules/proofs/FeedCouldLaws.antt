@@ -24,7 +24,7 @@ use Rattle.rules.specs.Bytes.{row, table, find, Spot, at, unknown, cut, 
 use Rattle.rules.specs.Refusals.{mostRequestBytes}
 use Rattle.rules.specs.Verdict.{Verdict, refused, done, turnedAway, unless, reads}
 use Rattle.rules.specs.Carry.{Carry, opening, leftBy, lastOffset, waits, even, couldStop, couldWait, couldLeave, carries}
-use Rattle.rules.specs.Feed.{Onward, flowing, onCarry, feedOn, completed, runsOver, feedRows, fed, feed, finish}
+use Rattle.rules.specs.Feed.{Onward, flowing, onCarry, feedOn, completed, runsOver, feedRows, feed, finish, ended, Reached, begins, feeds}
 use Rattle.rules.proofs.TableLaws.{find-known}
 use Rattle.rules.proofs.SoundLaws.{empty-sound}
 use Rattle.rules.proofs.ParseLaws.{read-goes, parse-step, spot-drop}
@@ -97,7 +97,7 @@ module _ (s : List ℕ) where
 
 -- ---- what a feed leaves passes
 
-and-both : (s t : Bool) → (s && t) ≡ true → (s ≡ true) × (t ≡ true)
+pub and-both : (s t : Bool) → (s && t) ≡ true → (s ≡ true) × (t ≡ true)
 and-both true true h = (refl, refl)
 and-both true false h = let z : _≡_ {A = ℕ} 0 1 = cc in absurd (omega arith)
 and-both false t h = let z : _≡_ {A = ℕ} 0 1 = cc in absurd (omega arith)
@@ -136,11 +136,6 @@ feed-could σ c piece h r = go (c .stopped) refl
         left-could (c .offset) s (parse s .end) (eqb-true (c .offset % 2) 0 (parts .0)) (omega (arith, ltb-false lastOffset (c .offset + length (c .kept) + length piece) r′)) (parse-ends s)
 
 -- ---- what passes is left by feeds that are accepted
-
-pub data Reached : Carry → Type 0 where
-  begins : Reached opening
-  feeds : {c d : Carry} {σ τ : State} {bs : List ℕ} (piece : List ℕ) (room : ℕ) → Reached c → Sound σ → Bytes piece
-      → feed (reads σ) (carries c) piece room ≡ done (record { state = τ; carry = d }) bs → Reached d
 
 least : Limits
 least = record { capacity = 1; smallLimit = 0; ghostLimit = 0 }
@@ -189,7 +184,7 @@ at-offset (suc n) h =
     (feeds clears 2 (at-offset n (omega arith)) least-sound clear-bytes (clear-fed (2 * n) (omega arith) (omega arith)))
 
 -- a record that waits has at most 17 bytes
-cut-short : (s : List ℕ) → spotAt s 0 ≡ cut → length s < 18
+pub cut-short : (s : List ℕ) → spotAt s 0 ≡ cut → length s < 18
 unfolding spotAt
 cut-short s e = pick (leb (length s) 0) refl (ltb (length s - 0) 2) refl (find (getD s 0 0) (getD s 1 0) table) refl e
   where
@@ -205,7 +200,7 @@ cut-short s e = pick (leb (length s) 0) refl (ltb (length s - 0) 2) refl (find (
             omega (arith, ltb-true (length s - 0) (r .bytes) m, ap (λ (x : Row). x .bytes) (find-known (getD s 0 0) (getD s 1 0) r k), even-row (r .kind))
         inner false m e = let z : _≡_ {A = ℕ} 0 1 = cc in absurd (omega arith)
 
-cut-parse : (s : List ℕ) → spotAt s 0 ≡ cut → parse s ≡ record { requests = []; end = cutAt 0 }
+pub cut-parse : (s : List ℕ) → spotAt s 0 ≡ cut → parse s ≡ record { requests = []; end = cutAt 0 }
 unfolding parse readAt
 cut-parse s e = parse-step s 0 ∙ ap (onReading (parseFrom s) 0) (ap (reading s 0) e)
 
@@ -233,10 +228,38 @@ nothing-kept : (l : List ℕ) → null l ≡ true → l ≡ []
 nothing-kept [] h = refl
 nothing-kept (x ∷ l) h = let z : _≡_ {A = ℕ} 0 1 = cc in absurd (omega arith)
 
-over-nil : (s : List ℕ) → spotAt s 0 ≡ over → s ≡ []
+pub over-nil : (s : List ℕ) → spotAt s 0 ≡ over → s ≡ []
 unfolding readAt
 over-nil [] e = refl
 over-nil (x ∷ s) e = let g = end-end (x ∷ s) 0 (ap (reading (x ∷ s) 0) e) in absurd (omega arith)
+
+-- what a stream that goes on carries is a record that waits, or nothing
+pub could-wait : (c : Carry) → couldLeave c ≡ true → c .stopped ≡ false → waits (spotAt (c .kept) 0) ≡ true
+unfolding couldLeave
+could-wait c h e =
+    let p = and-both (even (c .offset)) (cond (c .stopped) (couldStop c) (couldWait c)) h .1 in
+    let w : couldWait c ≡ true = rw e at p in
+    and-both (waits (spotAt (c .kept) 0)) (leb (c .offset + length (c .kept)) lastOffset) w .0
+
+waits-few : (s : List ℕ) (p : Spot) → spotAt s 0 ≡ p → waits p ≡ true → length s ≤ 17
+waits-few s (at k) e w = let z : _≡_ {A = ℕ} 0 1 = cc in absurd (omega arith)
+waits-few s unknown e w = let z : _≡_ {A = ℕ} 0 1 = cc in absurd (omega arith)
+waits-few s cut e w = omega (arith, cut-short s e)
+waits-few s over e w = omega (arith, ap length (over-nil s e))
+
+-- at most 17 bytes are kept
+pub kept-few : (c : Carry) → couldLeave c ≡ true → length (c .kept) ≤ 17
+unfolding couldLeave
+kept-few c h = go (c .stopped) refl
+  where
+    parts : cond (c .stopped) (couldStop c) (couldWait c) ≡ true
+    parts = and-both (even (c .offset)) (cond (c .stopped) (couldStop c) (couldWait c)) h .1
+
+    go : (t : Bool) → c .stopped ≡ t → length (c .kept) ≤ 17
+    go true e =
+        let p : couldStop c ≡ true = rw e at parts in
+        omega (arith, ap length (nothing-kept (c .kept) (and-both (null (c .kept)) (leb (c .offset + 2) lastOffset) p .0)))
+    go false e = waits-few (c .kept) (spotAt (c .kept) 0) refl (could-wait c h e)
 
 pub could-reach : (c : Carry) → Bytes (c .kept) → couldLeave c ≡ true → Reached c
 unfolding couldLeave
@@ -318,12 +341,6 @@ cut-in s i e = pick (leb (length s) i) refl e
 some-kept : (l : List ℕ) → 0 < length l → null l ≡ false
 some-kept [] h = absurd (omega arith)
 some-kept (x ∷ l) h = refl
-
--- how the stream ended: with what is left, or by refusal 9
-abbrev pub ended : Carry → End → Verdict Carry
-ended c whole = done c []
-ended c (unknownAt i) = turnedAway (BadRecord i)
-ended c (cutAt i) = turnedAway (BadRecord i)
 
 finish-left : (s : List ℕ) (e : End) → Ends s 0 e → finish (carries (leftBy 0 s e)) ≡ ended (leftBy 0 s e) e
 finish-left s whole f = refl

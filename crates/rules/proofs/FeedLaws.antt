@@ -245,7 +245,7 @@ feed-two σ c a b = go (c .stopped) refl
         ap (λ (l : List ℕ). flowing σ (c .offset) l (parse l)) (sym (append-assoc (c .kept) a b))
         ∙ parts σ (c .offset) (c .kept ++ a) b (parse (c .kept ++ a) .requests) (parse (c .kept ++ a) .end) (parse-parts (c .kept ++ a) b)
 
--- ---- any cutting
+-- ---- pieces one after the other are one piece
 
 pub feed-glued : (σ : State) (c : Carry) (p : List ℕ) (ps : List (List ℕ)) → feedAll σ c (p ∷ ps) ≡ feedOn σ c (glued (p ∷ ps))
 unfolding feedAll
@@ -254,7 +254,3 @@ feed-glued σ c p [] =
     ∙ ap (feedOn σ c) (sym (append-nil p))
 feed-glued σ c p (q ∷ ps) =
     ap (afterReplies (feedOn σ c p .replies)) (feed-glued (feedOn σ c p .state) (feedOn σ c p .carry) q ps) ∙ sym (feed-two σ c p (glued (q ∷ ps)))
-
--- the replies joined, the end state and what is carried are the same, wherever the stream is cut
-pub any-cutting : (σ : State) (c : Carry) (p q : List ℕ) (ps qs : List (List ℕ)) → glued (p ∷ ps) ≡ glued (q ∷ qs) → feedAll σ c (p ∷ ps) ≡ feedAll σ c (q ∷ qs)
-any-cutting σ c p q ps qs e = feed-glued σ c p ps ∙ ap (feedOn σ c) e ∙ sym (feed-glued σ c q qs)

@@ -12,7 +12,7 @@ use lib.Seq.{drop-cons}
 use Rattle.rules.specs.declared.Row.{Row}
 use Rattle.rules.specs.declared.Kind.{Kind}
 use Rattle.rules.specs.declared.Kind.the-variants.{Get, Peek, Remove, Insert, Evict, Clear}
-use Rattle.rules.specs.Bytes.{row, kinds, table, marks, find}
+use Rattle.rules.specs.Bytes.{row, kinds, table, marks, find, made, roomOf}
 
 -- inside the list the default is never read
 pub getD-any : {A : Type 0} (l : List A) (i : ℕ) (d e : A) → i < length l → getD l i d ≡ getD l i e
@@ -53,6 +53,15 @@ row-bytes Remove = omega arith
 row-bytes Insert = omega arith
 row-bytes Evict = omega arith
 row-bytes Clear = omega arith
+
+-- the room of a request is its row's
+pub room-made : (s : List ℕ) (i : ℕ) (k : Kind) → roomOf (made s i k) ≡ row k .room
+room-made s i Get = refl
+room-made s i Peek = refl
+room-made s i Remove = refl
+room-made s i Insert = refl
+room-made s i Evict = refl
+room-made s i Clear = refl
 
 pick-known : (t : Bool) (k : Kind) (f : Option Row) (r : Row) → (f ≡ some r → r ≡ row (r .kind)) → cond t (some (row k)) f ≡ some r → r ≡ row (r .kind)
 pick-known true k f r ih h =

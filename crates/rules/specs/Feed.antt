@@ -1,19 +1,21 @@
 -- Requests that arrive in pieces (RULES 7.3): what a feed carries out, when it is turned away, and what a finish says.
 -- Assumes nothing.
 use Prim.Native.Nat.{ℕ, _+_}
+use mathlib.Core.Path.{_≡_}
 use mathlib.Core.Bool.{Bool, true, false, not, _&&_, _||_}
 use mathlib.Core.List.{List, [], _∷_, _++_}
 use lib.Dec.{ltb}
 use lib.ListN.{length}
 use Rattle.rules.specs.declared.Turned.the-variants.{ShortStore, DamagedStore, LongRequests, BadRecord, NoRoom, BadCarry}
 use Rattle.rules.specs.Parts.{null}
-use Rattle.rules.specs.State.{State}
+use Rattle.cells.specs.Cells.{Bytes}
+use Rattle.rules.specs.State.{State, Sound}
 use Rattle.rules.specs.Records.{Request, Reply, Outcome}
 use Rattle.rules.specs.Requests.{run}
-use Rattle.rules.specs.Bytes.{Parsed, parse, roomFor, encodeAll}
+use Rattle.rules.specs.Bytes.{End, whole, unknownAt, cutAt, Parsed, parse, roomFor, encodeAll}
 use Rattle.rules.specs.Refusals.{mostRequestBytes, RefusalRow}
 use Rattle.rules.specs.Verdict.{Verdict, done, turnedAway, unless, Reads, short, damaged, reads}
-use Rattle.rules.specs.Carry.{Carry, leftBy, lastOffset, Carried, unfit, carries}
+use Rattle.rules.specs.Carry.{Carry, opening, leftBy, lastOffset, Carried, unfit, carries}
 
 -- ---- what a feed carries out
 
@@ -63,6 +65,10 @@ unfoldable pub completed : Carry → List ℕ → List Request
 unfolding parse
 completed c piece = parse (c .kept ++ piece) .requests
 
+abbrev pub completedOf : Carried → List ℕ → List Request
+completedOf unfit piece = []
+completedOf (carries c) piece = completed c piece
+
 -- a piece of so many bytes ends past the last offset
 abbrev pub runsOver : Carry → ℕ → Bool
 runsOver c n = not (c .stopped) && ltb lastOffset (c .offset + length (c .kept) + n)
@@ -100,3 +106,16 @@ finishRows c = record { when = c .stopped || not (null (c .kept)); why = BadReco
 abbrev pub finish : Carried → Verdict Carry
 finish unfit = turnedAway BadCarry
 finish (carries c) = unless (finishRows c) (done c [])
+
+-- how a stream ended, by how reading all of it ends: with what is left, or as one call's 9 would say
+abbrev pub ended : Carry → End → Verdict Carry
+ended c whole = done c []
+ended c (unknownAt i) = turnedAway (BadRecord i)
+ended c (cutAt i) = turnedAway (BadRecord i)
+
+-- ---- what feeds leave: a new stream's record, and whatever an accepted feed of bytes on a sound state leaves of one that was left
+
+pub data Reached : Carry → Type 0 where
+  begins : Reached opening
+  feeds : {c d : Carry} {σ τ : State} {bs : List ℕ} (piece : List ℕ) (room : ℕ) → Reached c → Sound σ → Bytes piece
+      → feed (reads σ) (carries c) piece room ≡ done (record { state = τ; carry = d }) bs → Reached d

@@ -9,13 +9,11 @@ use lib.ListN.{length}
 use mir.Syntax.{w64}
 use mir.Val.{Fits}
 use Rattle.rules.specs.Parts.{total}
-use Rattle.rules.specs.declared.Kind.{Kind}
-use Rattle.rules.specs.declared.Kind.the-variants.{Get, Peek, Remove, Insert, Evict, Clear}
 use Rattle.rules.specs.Records.{Request}
 use Rattle.rules.specs.Bytes.{row, over, made, roomOf, roomFor, Reading, ask, strange, short, end, readAt, End, unknownAt, cutAt, whole}
 use Rattle.rules.specs.Bytes.{Parsed, ends, with, onReading, parseFrom}
 use Rattle.rules.specs.Refusals.{mostRequestBytes}
-use Rattle.rules.proofs.TableLaws.{row-bytes}
+use Rattle.rules.proofs.TableLaws.{row-bytes, room-made}
 use Rattle.rules.proofs.ParseLaws.{Lies, spot-lies, parse-step}
 use Rattle.wire.specs.declared.KnownRow.{KnownRow}
 use Rattle.wire.specs.declared.Spot.{Spot as Spot·}
@@ -24,14 +22,6 @@ use Rattle.wire.specs.declared.Stop.the-variants.{Whole, Unknown as Unkn
 use Rattle.wire.specs.declared.Survey.{Survey}
 use Rattle.wire.specs.Wire.{endAt, stopOf, surveyed, Spots}
 use Rattle.wire.proofs.SpotLaws.{spot-is, reads, row-is, spot-inside, read-request}
-
-room-made : (s : List ℕ) (i : ℕ) (k : Kind) → roomOf (made s i k) ≡ row k .room
-room-made s i Get = refl
-room-made s i Peek = refl
-room-made s i Remove = refl
-room-made s i Insert = refl
-room-made s i Evict = refl
-room-made s i Clear = refl
 
 -- so much room was asked for before
 abbrev plus : ℕ → Survey → Survey

@@ -22,6 +22,7 @@ use Rattle.rules.specs.Sizing.{Sized, limits, refused as misfit, sizing}
 use Rattle.rules.specs.Refusals.{storeBytes, mostRequestBytes}
 use Rattle.rules.specs.declared.Turned.the-variants.{LongRequests}
 use Rattle.rules.specs.Verdict.{Verdict, refused, done, turnedAway, onSized, create, reads, call, FitsRoom, onCreated, onAsked}
+use Rattle.rules.proofs.ByteLaws.{bytes-take}
 use Rattle.rules.proofs.SoundLaws.{empty-sound}
 use Rattle.rules.proofs.VerdictLaws.{call-fits}
 use Rattle.sizing.proofs.AcceptedLaws.{accepted-fine}
@@ -130,12 +131,6 @@ pub written-fits : (s : List ℕ) → Bytes s → length (writtenFor s) ≤ repl
 written-fits s b = rw (written-whole s) (output-fits s replyRoom b (omega arith))
 
 -- ---- what the code does: of what was read nothing is cut off
-
-bytes-take : (n : ℕ) (s : List ℕ) → Bytes s → Bytes (take n s)
-bytes-take zero s b j = omega arith
-bytes-take (suc n) [] b j = omega arith
-bytes-take (suc n) (x ∷ xs) b zero = b 0
-bytes-take (suc n) (x ∷ xs) b (suc j) = bytes-take n xs (λ k. b (suc k)) j
 
 -- the part from 0 to n is taken as n - 0 bytes
 module _ (s p : List ℕ) (n : ℕ) {p′ : List ℕ} {r : ℕ} (a : mostInput ≡ length s) (b : n ≤ length s) (c : replyRoom ≡ length p)

@@ -24,7 +24,7 @@ use Rattle.rules.specs.Bytes.{row, table, find, Spot, at, unknown, cut, 
 use Rattle.rules.specs.Refusals.{mostRequestBytes}
 use Rattle.rules.specs.Verdict.{Verdict, refused, done, turnedAway, unless, reads}
 use Rattle.rules.specs.Carry.{Carry, opening, leftBy, lastOffset, waits, even, couldStop, couldWait, couldLeave, carries}
-use Rattle.rules.specs.Feed.{Onward, flowing, onCarry, feedOn, completed, runsOver, feedRows, feed, finish, ended, Reached, begins, feeds}
+use Rattle.rules.specs.Feed.{Onward, flowing, onCarry, feedOn, completed, runsOver, feedRows, feed, finishOn, ended, Reached, begins, feeds}
 use Rattle.rules.proofs.TableLaws.{find-known}
 use Rattle.rules.proofs.SoundLaws.{empty-sound}
 use Rattle.rules.proofs.ParseLaws.{read-goes, parse-step, spot-drop}
@@ -224,7 +224,7 @@ unfolding feed feedOn completed parse parseFrom walk readAt spotAt find table ru
 halt-fed o h l =
     accepted (waiting o []) 2 [] 0 _ (le-ltb lastOffset (o + 0 + 2) (omega arith)) (omega arith) refl (omega arith)
 
-nothing-kept : (l : List ℕ) → null l ≡ true → l ≡ []
+pub nothing-kept : (l : List ℕ) → null l ≡ true → l ≡ []
 nothing-kept [] h = refl
 nothing-kept (x ∷ l) h = let z : _≡_ {A = ℕ} 0 1 = cc in absurd (omega arith)
 
@@ -240,26 +240,6 @@ could-wait c h e =
     let p = and-both (even (c .offset)) (cond (c .stopped) (couldStop c) (couldWait c)) h .1 in
     let w : couldWait c ≡ true = rw e at p in
     and-both (waits (spotAt (c .kept) 0)) (leb (c .offset + length (c .kept)) lastOffset) w .0
-
-waits-few : (s : List ℕ) (p : Spot) → spotAt s 0 ≡ p → waits p ≡ true → length s ≤ 17
-waits-few s (at k) e w = let z : _≡_ {A = ℕ} 0 1 = cc in absurd (omega arith)
-waits-few s unknown e w = let z : _≡_ {A = ℕ} 0 1 = cc in absurd (omega arith)
-waits-few s cut e w = omega (arith, cut-short s e)
-waits-few s over e w = omega (arith, ap length (over-nil s e))
-
--- at most 17 bytes are kept
-pub kept-few : (c : Carry) → couldLeave c ≡ true → length (c .kept) ≤ 17
-unfolding couldLeave
-kept-few c h = go (c .stopped) refl
-  where
-    parts : cond (c .stopped) (couldStop c) (couldWait c) ≡ true
-    parts = and-both (even (c .offset)) (cond (c .stopped) (couldStop c) (couldWait c)) h .1
-
-    go : (t : Bool) → c .stopped ≡ t → length (c .kept) ≤ 17
-    go true e =
-        let p : couldStop c ≡ true = rw e at parts in
-        omega (arith, ap length (nothing-kept (c .kept) (and-both (null (c .kept)) (leb (c .offset + 2) lastOffset) p .0)))
-    go false e = waits-few (c .kept) (spotAt (c .kept) 0) refl (could-wait c h e)
 
 pub could-reach : (c : Carry) → Bytes (c .kept) → couldLeave c ≡ true → Reached c
 unfolding couldLeave
@@ -328,7 +308,7 @@ reach-could (feeds {c = c} {d = d} {σ = σ} {τ = τ} {bs = bs} piece room r s 
     same : {v w : Onward} {k bs : List ℕ} → done v k ≡ done w bs → v .carry ≡ w .carry
     same {v} {w} e = let z : v ≡ w = cc in ap (λ (w : Onward). w .carry) z
 
--- ---- finish, over a whole stream
+-- ---- a finish, over a whole stream
 
 cut-in : (s : List ℕ) (i : ℕ) → spotAt s i ≡ cut → i < length s
 unfolding spotAt
@@ -342,13 +322,13 @@ some-kept : (l : List ℕ) → 0 < length l → null l ≡ false
 some-kept [] h = absurd (omega arith)
 some-kept (x ∷ l) h = refl
 
-finish-left : (s : List ℕ) (e : End) → Ends s 0 e → finish (carries (leftBy 0 s e)) ≡ ended (leftBy 0 s e) e
+finish-left : (s : List ℕ) (e : End) → Ends s 0 e → finishOn (carries (leftBy 0 s e)) ≡ ended (leftBy 0 s e) e
 finish-left s whole f = refl
 finish-left s (cutAt c) f =
     rw (some-kept (drop c s) (omega (arith, length-drop c s, cut-in s c (f .2)))) (ap (λ (n : ℕ). turnedAway (BadRecord n)) (omega arith))
 finish-left s (unknownAt c) f = ap (λ (n : ℕ). turnedAway (BadRecord n)) (omega arith)
 
 -- after all of a stream a finish says of it what one call's refusal 9 would
-pub finish-is : (σ : State) (s : List ℕ) → finish (carries (feedOn σ opening s .carry)) ≡ ended (feedOn σ opening s .carry) (parse s .end)
+pub finish-is : (σ : State) (s : List ℕ) → finishOn (carries (feedOn σ opening s .carry)) ≡ ended (feedOn σ opening s .carry) (parse s .end)
 unfolding feedOn
 finish-is σ s = finish-left s (parse s .end) (parse-ends s)

@@ -4,7 +4,7 @@ use Prim.Native.Nat.{ℕ, zero, suc, _+_, _*_, _≤_, _<_}
 use native.Mathlib.Omega.{arith}
 use native.Mathlib.Nat.{add-zero}
 use mathlib.Core.Path.{_≡_, refl, sym, ap, ap₂, _∙_, subst}
-use mathlib.Core.Bool.{Bool, true, false}
+use mathlib.Core.Bool.{Bool, true, false, cond}
 use mathlib.Core.List.{List, [], _∷_, _++_, append-nil}
 use lib.ListN.{length, length-append}
 use Rattle.rules.specs.State.{State}
@@ -12,12 +12,13 @@ use Rattle.rules.specs.Records.{Request}
 use Rattle.rules.specs.Requests.{run}
 use Rattle.rules.specs.Bytes.{Spot, at, unknown, cut, over, spotAt, Reading, ask, strange, short, end, reading, readAt, whole, cutAt, Parsed, ends, onReading, walk, parseFrom, parse}
 use Rattle.rules.specs.Bytes.{roomOf, roomFor}
-use Rattle.rules.specs.Carry.{Carry, waits, couldLeave}
-use Rattle.rules.specs.Feed.{Flow, still, flowing, onCarry, feedOn, feedAll, glued, completed}
+use Rattle.rules.specs.Carry.{Carry, waits, couldLeave, carries}
+use Rattle.rules.specs.Feed.{still, flow, flowing, onCarry, feedOn, feedAll, glued, completed, completedOf}
 use Rattle.rules.proofs.TableLaws.{row-bytes, room-made}
 use Rattle.rules.proofs.ParseLaws.{read-goes, parse-step}
 use Rattle.rules.proofs.FeedLaws.{feed-glued}
-use Rattle.rules.proofs.FeedCouldLaws.{could-wait, over-nil, cut-parse, kept-few}
+use Rattle.rules.proofs.FeedCouldLaws.{could-wait, over-nil, cut-parse}
+use Rattle.rules.proofs.CarryLaws.{could-few}
 
 -- ---- a feed of nothing
 
@@ -45,6 +46,17 @@ feed-nothing σ c h = go (c .stopped) refl
         ap (λ (l : List ℕ). flowing σ (c .offset) l (parse l)) (append-nil (c .kept))
         ∙ waiting-still σ (c .offset) (c .kept) (spotAt (c .kept) 0) refl (could-wait c h e)
         ∙ ap (λ (t : Bool). still σ (record { offset = c .offset; kept = c .kept; stopped = t })) (sym e)
+
+-- ---- a feed carries out what it completes
+
+pub feed-runs : (σ : State) (c : Carry) (piece : List ℕ) → let o = run σ (completedOf (carries c) piece) in
+    feedOn σ c piece ≡ flow (feedOn σ c piece .carry) o
+unfolding feedOn completed run
+feed-runs σ c piece = go (c .stopped)
+  where
+    go : (t : Bool) → onCarry σ c piece t ≡ flow (onCarry σ c piece t .carry) (run σ (cond t [] (completed c piece)))
+    go true = refl
+    go false = refl
 
 -- ---- any cutting
 
@@ -100,4 +112,4 @@ module _ (s : List ℕ) where
 -- what a piece completes, with the 17 bytes that may be kept before it
 pub feed-room : (c : Carry) (piece : List ℕ) → couldLeave c ≡ true → roomFor (completed c piece) ≤ 18 * (length piece + 17)
 unfolding completed parse
-feed-room c piece h = omega (arith, parse-room (c .kept ++ piece) 0 (omega arith), length-append (c .kept) piece, kept-few c h)
+feed-room c piece h = omega (arith, parse-room (c .kept ++ piece) 0 (omega arith), length-append (c .kept) piece, could-few c h)

@@ -2,7 +2,7 @@
 -- Assumes nothing.
 use Prim.Native.Nat.{ℕ, _+_}
 use mathlib.Core.Path.{_≡_}
-use mathlib.Core.Bool.{Bool, true, false, not, _&&_, _||_}
+use mathlib.Core.Bool.{Bool, true, false, not, cond, _&&_, _||_}
 use mathlib.Core.List.{List, [], _∷_, _++_}
 use lib.Dec.{ltb}
 use lib.ListN.{length}
@@ -65,9 +65,10 @@ unfoldable pub completed : Carry → List ℕ → List Request
 unfolding parse
 completed c piece = parse (c .kept ++ piece) .requests
 
+-- those that a feed carries out: a stopped stream takes nothing more
 abbrev pub completedOf : Carried → List ℕ → List Request
 completedOf unfit piece = []
-completedOf (carries c) piece = completed c piece
+completedOf (carries c) piece = cond (c .stopped) [] (completed c piece)
 
 -- a piece of so many bytes ends past the last offset
 abbrev pub runsOver : Carry → ℕ → Bool
@@ -103,9 +104,9 @@ abbrev pub finishRows : Carry → List RefusalRow
 finishRows c = record { when = c .stopped || not (null (c .kept)); why = BadRecord (c .offset) } ∷ []
 
 -- nothing changes: what was carried stays
-abbrev pub finish : Carried → Verdict Carry
-finish unfit = turnedAway BadCarry
-finish (carries c) = unless (finishRows c) (done c [])
+abbrev pub finishOn : Carried → Verdict Carry
+finishOn unfit = turnedAway BadCarry
+finishOn (carries c) = unless (finishRows c) (done c [])
 
 -- how a stream ended, by how reading all of it ends: with what is left, or as one call's 9 would say
 abbrev pub ended : Carry → End → Verdict Carry

@@ -16,15 +16,21 @@ use Rattle.rules.specs.declared.Turned.the-variants.{ShortStore}
 use Rattle.rules.specs.State.{Limits, State, emptyAt, Fine}
 use Rattle.rules.specs.Records.{Request, IN, Narrow, AllNarrow, AllPeeks, Outcome, tellFirst}
 use Rattle.rules.specs.Requests.{apply, run}
-use Rattle.rules.specs.Bytes.{encodeAll, parse}
+use Rattle.rules.specs.Bytes.{End, whole, unknownAt, cutAt, encodeAll, parse}
 use Rattle.rules.specs.Sizing.{Sized, limits, refused as misfit, sizing}
-use Rattle.rules.specs.Refusals.{RefusalRow, storeBytes, runRows}
+use Rattle.rules.specs.Refusals.{RefusalRow, storeBytes, broken, runRows}
 use Rattle.rules.specs.Verdict.{Verdict, refused as turnedBy, done, turnedAway, unless, onSized, create, Reads, short, damaged, reads, finished, call}
 use Rattle.rules.specs.Ledger.{history}
 use Rattle.rules.specs.Replies.{ReadAs}
 use Rattle.rules.proofs.SoundLaws.{empty-sound}
+use Rattle.rules.specs.Carry.{Carry, CarryAs, Carried, carries, ReadsCarry}
+use Rattle.rules.specs.Feed.{Flow, flow, feedOn, completed, completedOf, Onward, feed}
+use Rattle.rules.proofs.ByteLaws.{bytes-append}
 use Rattle.rules.proofs.ParseLaws.{parse-sized}
+use Rattle.rules.proofs.CarriedLaws.{kept-bytes}
+use Rattle.rules.proofs.StreamLaws.{feed-runs}
 use Rattle.rules.proofs.RoomLaws.{encode-append}
+use Rattle.rules.proofs.VerdictLaws.{Passed}
 use Rattle.rules.proofs.LedgerLaws.{demand-3-run, run-append}
 use Rattle.rules.proofs.RepliesLaws.{reading-once, history-read}
 use Rattle.sizing.specs.declared.Settings.{Settings}
@@ -32,9 +38,13 @@ use Rattle.sizing.proofs.AcceptedLaws.{accepted-fine, accepted-limits}
 use Rattle.store.specs.Holds.{Holds}
 use Rattle.s3_fifo.specs.declared.Creation.the-variants.{Made}
 use Rattle.s3_fifo.specs.declared.Ran.the-variants.{Done}
+use Rattle.s3_fifo.specs.declared.Fed.{Fed}
+use Rattle.s3_fifo.specs.Feeds.{fedSays, FollowsFeed, FedAs}
+use Rattle.s3_fifo.specs.Streams.{Goes}
 use Rattle.s3_fifo.specs.Calls.{Said, gave, turned, ranSays, ReadsAs, Follows, Created, Called}
-use Rattle.s3_fifo.specs.Chains.{limitsMade, Chain, start, accepted, refused, Grown, Kept, FullWithin}
-use Rattle.s3_fifo.proofs.OnceLaws.{gave-not, reads-once}
+use Rattle.s3_fifo.specs.Chains.{limitsMade, Chain, start, accepted, refused, fed, unfed, Grown, Kept, FullWithin}
+use Rattle.s3_fifo.proofs.OnceLaws.{gave-not, goes-not, reads-once}
+use Rattle.s3_fifo.proofs.FedLaws.{took-goes, goes-on, goes-lent}
 
 -- ---- from an answer to the verdict's last word
 
@@ -47,6 +57,15 @@ module _ (n : ℕ) (s s′ p p′ : List ℕ) where
   rows-passed : (rows : List RefusalRow) (v : Verdict State) → Follows (unless rows v) (gave n) s s′ p p′ → Follows v (gave n) s s′ p p′
   rows-passed [] v h = h
   rows-passed (r ∷ rows) v h = rows-passed rows v (row-passed (r .when) (r .why) (unless rows v) h)
+
+  row-false : (t : Bool) (why : Turned) (v : Verdict State) → Follows (cond t (turnedAway why) v) (gave n) s s′ p p′ → t ≡ false
+  row-false true why v h = absurd (gave-not (h .0))
+  row-false false why v h = refl
+
+  rows-all : (rows : List RefusalRow) (v : Verdict State) → Follows (unless rows v) (gave n) s s′ p p′ → Passed rows
+  rows-all [] v h = tt
+  rows-all (r ∷ rows) v h =
+      (row-false (r .when) (r .why) (unless rows v) h, rows-all rows v (row-passed (r .when) (r .why) (unless rows v) h))
 
 -- one that is leaves the store as it was
 refused-same : (v : Verdict State) (n d : ℕ) (a : Said) (s s′ p p′ : List ℕ) → Follows v a s s′ p p′ → a ≡ turned n d → s′ ≡ s
@@ -99,6 +118,40 @@ served {s} {q} {p} {s′} {p′} {n} {σ} h b c =
     said : {a b : ℕ} → gave a ≡ gave b → a ≡ b
     said x = cc
 
+-- an accepted call's requests were whole
+pub record Whole (s q s′ p′ : List ℕ) (n : ℕ) : Type 0 where
+  pub state : State
+  pub held : Holds s state
+  pub long : storeBytes ≤ length s
+  pub served : Served state q s′ p′ n
+  pub same-length : length s′ ≡ length s
+  pub ended : parse q .end ≡ whole
+
+not-broken : (e : End) → broken e ≡ false → e ≡ whole
+not-broken whole h = refl
+not-broken (unknownAt i) h = let z : _≡_ {A = ℕ} 0 1 = cc in absurd (omega arith)
+not-broken (cutAt i) h = let z : _≡_ {A = ℕ} 0 1 = cc in absurd (omega arith)
+
+whole-on : (s q p s′ p′ : List ℕ) (n : ℕ) (x : Reads) → ReadsAs s x → Follows (call x q (length p)) (gave n) s s′ p p′ → Called s q p (Done n) s′ p′
+    → Whole s q s′ p′ n
+unfolding call
+whole-on s q p s′ p′ n short h l c = absurd (gave-not (l .0))
+whole-on s q p s′ p′ n damaged h l c = absurd (gave-not (l .0))
+whole-on s q p s′ p′ n (reads σ) h l c =
+    let rows = runRows (length q) (parse q) (length p) in
+    let a = rows-all n s s′ p p′ rows (finished (run σ (parse q .requests))) l in
+    record {
+      state = σ;
+      held = h .1;
+      long = h .0;
+      served = served (h .1) (h .0) c .0;
+      same-length = rows-passed n s s′ p p′ rows (finished (run σ (parse q .requests))) l .1 .same-length;
+      ended = not-broken (parse q .end) (a .1 .0);
+    }
+
+pub whole-served : {s q p s′ p′ : List ℕ} {n : ℕ} → Called s q p (Done n) s′ p′ → Whole s q s′ p′ n
+whole-served {s} {q} {p} {s′} {p′} {n} c = whole-on s q p s′ p′ n (c .store) (c .store-is) (c .leaves) c
+
 -- ---- what an accepted call leaves never counts as damaged
 
 pub created-intact : {settings : Settings} {s s′ : List ℕ} → Created settings s Made s′ → ReadsAs s′ damaged → ⊥
@@ -118,30 +171,67 @@ called-intact {s} {q} {p} {s′} {p′} {n} c d = intact s q p s′ p′ n (c .s
 
 -- ---- the chain
 
-grow : {s q p s′ p′ : List ℕ} {n : ℕ} {σ₀ : State} {rs : List Request} {bs : List ℕ} → Grown s σ₀ rs bs → Bytes q → Called s q p (Done n) s′ p′
-    → Grown s′ σ₀ (rs ++ parse q .requests) (bs ++ take n p′)
-grow {s} {q} {p} {s′} {p′} {n} {σ₀} {rs} {bs} g b c =
-    let v = served (g .holds) (g .long) c in
-    let e : run σ₀ (rs ++ parse q .requests) ≡ tellFirst (run σ₀ rs .replies) (run (run σ₀ rs .state) (parse q .requests)) =
-    run-append σ₀ rs (parse q .requests) in
+-- requests more, and the replies to them
+grow : {s s′ : List ℕ} {σ₀ : State} {rs : List Request} {bs : List ℕ} (more : List Request) {new : List ℕ} → Grown s σ₀ rs bs → AllNarrow more
+    → Holds s′ (run (run σ₀ rs .state) more .state) → new ≡ encodeAll (run (run σ₀ rs .state) more .replies) → storeBytes ≤ length s′
+    → Grown s′ σ₀ (rs ++ more) (bs ++ new)
+grow {s} {s′} {σ₀} {rs} {bs} more {new} g z h t b =
+    let e : run σ₀ (rs ++ more) ≡ tellFirst (run σ₀ rs .replies) (run (run σ₀ rs .state) more) = run-append σ₀ rs more in
     record {
       sound = g .sound;
-      narrow = every-append Narrow rs (parse q .requests) (g .narrow) (parse-sized q b);
-      holds = subst (Holds s′) (ap (λ (o : Outcome). o .state) (sym e)) (v .0 .holds);
+      narrow = every-append Narrow rs more (g .narrow) z;
+      holds = subst (Holds s′) (ap (λ (o : Outcome). o .state) (sym e)) h;
       told =
-          ap₂ (λ (x y : List ℕ). x ++ y) (g .told) (v .0 .told)
-          ∙ sym (encode-append (run σ₀ rs .replies) (run (run σ₀ rs .state) (parse q .requests) .replies))
+          ap₂ (λ (x y : List ℕ). x ++ y) (g .told) t
+          ∙ sym (encode-append (run σ₀ rs .replies) (run (run σ₀ rs .state) more .replies))
           ∙ ap (λ (o : Outcome). encodeAll (o .replies)) (sym e);
-      long = v .1;
+      long = b;
     }
+
+grow-called : {s q p s′ p′ : List ℕ} {n : ℕ} {σ₀ : State} {rs : List Request} {bs : List ℕ} → Grown s σ₀ rs bs → Bytes q → Called s q p (Done n) s′ p′
+    → Grown s′ σ₀ (rs ++ parse q .requests) (bs ++ take n p′)
+grow-called {q = q} g b c = let v = served (g .holds) (g .long) c in grow (parse q .requests) g (parse-sized q b) (v .0 .holds) (v .0 .told) (v .1)
+
+-- what a feed carries out has numbers of 64 bits
+fed-narrow : {c q : List ℕ} (k : Carry) → CarryAs c k → Bytes c → Bytes q → AllNarrow (completedOf (carries k) q)
+unfolding completed
+fed-narrow {c} {q} k x b d = go (k .stopped)
+  where
+    go : (t : Bool) → AllNarrow (cond t [] (completed k q))
+    go true = tt
+    go false = parse-sized (k .kept ++ q) (bytes-append (k .kept) q (kept-bytes x b) d)
+
+grow-fed : {s c q p s′ c′ p′ : List ℕ} (r : Fed) (n : ℕ) {σ₀ : State} {rs : List Request} {bs : List ℕ} → Grown s σ₀ rs bs → Bytes c → Bytes q
+    → (f : FedAs s c q p r s′ c′ p′) → Goes r n → Grown s′ σ₀ (rs ++ completedOf (f .carry) q) (bs ++ take n p′)
+grow-fed {s} {c} {q} {p} {s′} {c′} {p′} r n {σ₀} {rs} {bs} g b d f t =
+    let l = goes-lent r n f t in
+    let k = l .carry in
+    let σ : State = run σ₀ rs .state in
+    let x : CarryAs c k = subst (ReadsCarry c) (l .carry-is) (f .carry-is) in
+    let w = goes-on r n (g .holds) (g .long) x f t .went in
+    let e : feedOn σ k q ≡ flow (feedOn σ k q .carry) (run σ (completedOf (carries k) q)) = feed-runs σ k q in
+    subst (λ (y : Carried). Grown s′ σ₀ (rs ++ completedOf y q) (bs ++ take n p′)) (sym (l .carry-is))
+    (grow (completedOf (carries k) q) g (fed-narrow k x b d)
+    (subst (Holds s′) (ap (λ (y : Flow). y .state) e) (w .holds))
+    (w .told ∙ ap (λ (y : Flow). encodeAll (y .replies)) e)
+    (let h = g .long in omega (arith, w .same-length)))
+
+-- a feed that was turned away leaves the store as it was
+unfed-same : (v : Verdict Onward) (n d : ℕ) (a : Said) (s s′ c c′ p p′ : List ℕ) → FollowsFeed v a s s′ c c′ p p′ → a ≡ turned n d → s′ ≡ s
+unfed-same (turnedBy m e) n d a s s′ c c′ p p′ h r = h .1
+unfed-same (done w bs) n d a s s′ c c′ p p′ h r = absurd (goes-not (w .carry) (sym (h .0) ∙ r))
 
 pub grown : {s : List ℕ} {σ₀ : State} {rs : List Request} {bs : List ℕ} → Chain s σ₀ rs bs → Grown s σ₀ rs bs
 unfolding run encodeAll
 grown (start {settings = settings} c) =
     let b = begun c in record { sound = empty-sound (limitsMade settings) (b .fine); narrow = tt; holds = b .holds; told = refl; long = b .long }
-grown (accepted h b c) = grow (grown h) b c
+grown (accepted h b c) = grow-called (grown h) b c
 grown (refused {s = s} {q = q} {p = p} {s′ = s′} {p′ = p′} {r = r} {σ₀ = σ₀} {rs = rs} {bs = bs} n d h c e) =
     subst (λ (x : List ℕ). Grown x σ₀ rs bs) (sym (refused-same (call (c .store) q (length p)) n d (ranSays r) s s′ p p′ (c .leaves) e)) (grown h)
+grown (fed {r = r} n h b d f t) = grow-fed r n (grown h) b d f (took-goes r n t)
+grown (unfed {s = s} {c = c} {q = q} {p = p} {s′ = s′} {c′ = c′} {p′ = p′} {r = r} {σ₀ = σ₀} {rs = rs} {bs = bs} n d h f e) =
+    subst (λ (x : List ℕ). Grown x σ₀ rs bs)
+    (sym (unfed-same (feed (f .store) (f .carry) q (length p)) n d (fedSays r) s s′ c c′ p p′ (f .leaves) e)) (grown h)
 
 pub chain-keeps : {s : List ℕ} {σ₀ : State} {rs : List Request} {bs : List ℕ} → Chain s σ₀ rs bs → Kept s σ₀ rs bs
 chain-keeps {s} {σ₀} {rs} {bs} c =

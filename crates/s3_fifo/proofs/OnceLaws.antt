@@ -2,6 +2,7 @@
 -- all that stands behind it.
 -- Assumes nothing.
 use mathlib.Core.Path.{_≡_, refl, sym, ap, _∙_, subst}
+use mathlib.Core.Bool.{Bool, true, false, cond}
 use mathlib.Core.List.{List, []}
 use Prim.Native.Nat.{ℕ}
 use native.Mathlib.Omega.{arith}
@@ -10,6 +11,9 @@ use Rattle.nodes.specs.Nodes.{used}
 use Rattle.rules.specs.State.{State}
 use Rattle.rules.specs.Verdict.{Verdict, refused, done, create, Reads, short, damaged, reads, call}
 use Rattle.sizing.specs.declared.Settings.{Settings}
+use Rattle.rules.specs.Carry.{Carry, Carried, ReadsCarry}
+use Rattle.rules.specs.Feed.{Onward, feed, finishOn}
+use Rattle.rules.proofs.CarriedLaws.{carried-once}
 use Rattle.rules.proofs.RefusalsLaws.{turnedBy, turned-back}
 use Rattle.store.specs.Holds.{shapeFor, Holds}
 use Rattle.store.proofs.HoldsLaws.{holds-once}
@@ -17,8 +21,13 @@ use Rattle.s3_fifo.specs.declared.Creation.{Creation}
 use Rattle.s3_fifo.specs.declared.Creation.the-variants.{Made, Refused as NotMade}
 use Rattle.s3_fifo.specs.declared.Ran.{Ran}
 use Rattle.s3_fifo.specs.declared.Ran.the-variants.{Done, Refused}
-use Rattle.s3_fifo.specs.Calls.{Said, gave, turned, createdSays, ranSays, ReadsAs, Settled, Follows, Created, Called}
-use Rattle.s3_fifo.specs.Once.{Agrees, OneCreation, OneCall}
+use Rattle.s3_fifo.specs.declared.Fed.{Fed}
+use Rattle.s3_fifo.specs.declared.Fed.the-variants.{Done as Given, Stopped, Refused as Away}
+use Rattle.s3_fifo.specs.declared.Finish.{Finish}
+use Rattle.s3_fifo.specs.declared.Finish.the-variants.{Complete, Refused as Broken}
+use Rattle.s3_fifo.specs.Feeds.{fedSays, finishSays, saidWith, FollowsFeed, FedAs, finishedAs, Finished}
+use Rattle.s3_fifo.specs.Calls.{Said, gave, halted, turned, createdSays, ranSays, ReadsAs, Settled, Follows, Created, Called}
+use Rattle.s3_fifo.specs.Once.{Alike, Agrees, OneCreation, OneCall, OneFeed}
 
 -- ---- the answer is known by what it says
 
@@ -27,6 +36,7 @@ gave-not e = let z : _≡_ {A = ℕ} 0 1 = cc in omega arith
 
 abbrev ranBy : Said → Ran
 ranBy (gave n) = Done n
+ranBy (halted n d) = Done n
 ranBy (turned n d) = Refused (turnedBy n d)
 
 ran-back : (r : Ran) → ranBy (ranSays r) ≡ r
@@ -38,6 +48,7 @@ ran-once r t e = sym (ran-back r) ∙ ap ranBy e ∙ ran-back t
 
 abbrev createdBy : Said → Creation
 createdBy (gave n) = Made
+createdBy (halted n d) = Made
 createdBy (turned n d) = NotMade (turnedBy n d)
 
 created-back : (r : Creation) → createdBy (createdSays r) ≡ r
@@ -62,20 +73,31 @@ reads-once s (reads σ) (reads τ) h g = ap reads (holds-once (h .1) (g .1))
 
 -- ---- two stores that nobody can tell apart by what they hold
 
-agrees-self : (a : Said) (s : List ℕ) → Agrees a s s
-agrees-self a s = record { refused-same = λ n d e. refl; holds = λ σ h. h; back = λ σ h. h; surplus = λ σ h. refl; same-length = refl }
+pub alike-self : (s : List ℕ) → Alike s s
+alike-self s = record { holds = λ σ h. h; back = λ σ h. h; same-length = refl }
 
-settled-agrees : {n : ℕ} {s s₁ s₂ : List ℕ} {τ : State} → Settled s s₁ τ → Settled s s₂ τ → Agrees (gave n) s₁ s₂
-settled-agrees {n} {s} {s₁} {s₂} {τ} a b =
+pub alike-holds : {s₁ s₂ : List ℕ} {τ : State} → Holds s₁ τ → Holds s₂ τ → length s₁ ≡ length s₂ → Alike s₁ s₂
+alike-holds {s₁} {s₂} a b e =
+    record { holds = λ σ h. subst (Holds s₂) (holds-once a h) b; back = λ σ h. subst (Holds s₁) (holds-once b h) a; same-length = e }
+
+agrees-self : (a : Said) (s : List ℕ) → Agrees a s s
+agrees-self a s = record { refused-same = λ n d e. refl; alike = alike-self s; surplus = λ σ h. refl }
+
+-- an answer that is no refusal
+abbrev Kind : Said → Type 0
+Kind (gave n) = Unit {0}
+Kind (halted n d) = Unit {0}
+Kind (turned n d) = ⊥
+
+settled-agrees : {s s₁ s₂ : List ℕ} {τ : State} (a : Said) → Kind a → Settled s s₁ τ → Settled s s₂ τ → Agrees a s₁ s₂
+settled-agrees {s} {s₁} {s₂} {τ} x k a b =
     record {
-      refused-same = λ m d e. absurd (gave-not e);
-      holds = λ σ h. subst (Holds s₂) (holds-once (a .holds) h) (b .holds);
-      back = λ σ h. subst (Holds s₁) (holds-once (b .holds) h) (a .holds);
+      refused-same = λ n d e. absurd (subst Kind e k);
+      alike = alike-holds (a .holds) (b .holds) (a .same-length ∙ sym (b .same-length));
       surplus = λ σ h. subst
           (λ (ρ : State). drop (used (shapeFor (ρ .limits))) s₁ ≡ drop (used (shapeFor (ρ .limits))) s₂)
           (holds-once (a .holds) h)
           (a .surplus ∙ sym (b .surplus));
-      same-length = a .same-length ∙ sym (b .same-length);
     }
 
 -- what one verdict leaves is one thing
@@ -84,9 +106,9 @@ follows-once : (v : Verdict State) (a b : Said) (s s₁ s₂ p p₁ p₂ : List 
 follows-once (refused n d) a b s s₁ s₂ p p₁ p₂ h g =
     (h .0 ∙ sym (g .0), h .2 ∙ sym (g .2), subst (λ (x : List ℕ). Agrees a s₁ x) (h .1 ∙ sym (g .1)) (agrees-self a s₁))
 follows-once (done σ bs) a b s s₁ s₂ p p₁ p₂ h g =
-    (h .0 ∙ sym (g .0), h .2 ∙ sym (g .2), subst (λ (x : Said). Agrees x s₁ s₂) (sym (h .0)) (settled-agrees (h .1) (g .1)))
+    (h .0 ∙ sym (g .0), h .2 ∙ sym (g .2), subst (λ (x : Said). Agrees x s₁ s₂) (sym (h .0)) (settled-agrees (gave (length bs)) tt (h .1) (g .1)))
 
--- ---- the two calls
+-- ---- a creation and a call
 
 pub created-once : {settings : Settings} {s s₁ s₂ : List ℕ} (r t : Creation) → Created settings s r s₁ → Created settings s t s₂ → OneCreation r t s₁ s₂
 created-once {settings} {s} {s₁} {s₂} r t c d =
@@ -101,3 +123,73 @@ called-once {s} {q} {p} {s₁} {s₂} {p₁} {p₂} r t c d =
     subst (λ (x : Reads). Follows (call x q (length p)) (ranSays r) s s₁ p p₁) e (c .leaves) in
     let l = follows-once (call (d .store) q (length p)) (ranSays r) (ranSays t) s s₁ s₂ p p₁ p₂ f (d .leaves) in
     record { answer = ran-once r t (l .0); replies = l .1; stores = l .2 }
+
+-- ---- a feed and a finish
+
+abbrev fedBy : Said → Fed
+fedBy (gave n) = Given n
+fedBy (halted n d) = Stopped n d
+fedBy (turned n d) = Away (turnedBy n d)
+
+fed-back : (r : Fed) → fedBy (fedSays r) ≡ r
+fed-back (Given n) = refl
+fed-back (Stopped n d) = refl
+fed-back (Away t) = ap Away (turned-back t)
+
+pub fed-says-once : (r t : Fed) → fedSays r ≡ fedSays t → r ≡ t
+fed-says-once r t e = sym (fed-back r) ∙ ap fedBy e ∙ fed-back t
+
+abbrev finishBy : Said → Finish
+finishBy (gave n) = Complete
+finishBy (halted n d) = Complete
+finishBy (turned n d) = Broken (turnedBy n d)
+
+finish-back : (r : Finish) → finishBy (finishSays r) ≡ r
+finish-back Complete = refl
+finish-back (Broken t) = ap Broken (turned-back t)
+
+pub finish-says-once : (r t : Finish) → finishSays r ≡ finishSays t → r ≡ t
+finish-says-once r t e = sym (finish-back r) ∙ ap finishBy e ∙ finish-back t
+
+said-kind : (c : Carry) (n : ℕ) → Kind (saidWith c n)
+said-kind c n = go (c .stopped)
+  where
+    go : (t : Bool) → Kind (cond t (halted n (c .offset)) (gave n))
+    go true = tt
+    go false = tt
+
+-- an answer with reply bytes is no refusal
+pub goes-not : (c : Carry) {n m d : ℕ} → saidWith c n ≡ turned m d → ⊥
+goes-not c {n} e = subst Kind e (said-kind c n)
+
+follows-feed-once : (v : Verdict Onward) (a b : Said) (s s₁ s₂ c c₁ c₂ p p₁ p₂ : List ℕ) → FollowsFeed v a s s₁ c c₁ p p₁ → FollowsFeed v b s s₂ c c₂ p p₂
+    → (a ≡ b) × (c₁ ≡ c₂) × (p₁ ≡ p₂) × Agrees a s₁ s₂
+follows-feed-once (refused n d) a b s s₁ s₂ c c₁ c₂ p p₁ p₂ h g =
+    (h .0 ∙ sym (g .0), h .2 ∙ sym (g .2), h .3 ∙ sym (g .3), subst (λ (x : List ℕ). Agrees a s₁ x) (h .1 ∙ sym (g .1)) (agrees-self a s₁))
+follows-feed-once (done w bs) a b s s₁ s₂ c c₁ c₂ p p₁ p₂ h g =
+    let x : Said = saidWith (w .carry) (length bs) in (
+      h .0 ∙ sym (g .0),
+      h .2 ∙ sym (g .2),
+      h .3 ∙ sym (g .3),
+      subst (λ (y : Said). Agrees y s₁ s₂) (sym (h .0)) (settled-agrees x (said-kind (w .carry) (length bs)) (h .1) (g .1)),
+    )
+
+-- the verdict on a feed of that store and that record
+pub fed-on : {s c q p s′ c′ p′ : List ℕ} {r : Fed} (x : Reads) (k : Carried) → ReadsAs s x → ReadsCarry c k → FedAs s c q p r s′ c′ p′
+    → FollowsFeed (feed x k q (length p)) (fedSays r) s s′ c c′ p p′
+fed-on {s} {c} {q} {p} {s′} {c′} {p′} {r} x k h g f =
+    let d : f .store ≡ x = reads-once s (f .store) x (f .store-is) h in
+    let e : f .carry ≡ k = carried-once c (f .carry) k (f .carry-is) g in
+    subst (λ (y : Reads). FollowsFeed (feed y k q (length p)) (fedSays r) s s′ c c′ p p′) d
+    (subst (λ (l : Carried). FollowsFeed (feed (f .store) l q (length p)) (fedSays r) s s′ c c′ p p′) e (f .leaves))
+
+pub fed-once : {s c q p s₁ s₂ c₁ c₂ p₁ p₂ : List ℕ} (r t : Fed) → FedAs s c q p r s₁ c₁ p₁ → FedAs s c q p t s₂ c₂ p₂ → OneFeed r t s₁ s₂ c₁ c₂ p₁ p₂
+fed-once {s} {c} {q} {p} {s₁} {s₂} {c₁} {c₂} {p₁} {p₂} r t f g =
+    let v = feed (g .store) (g .carry) q (length p) in
+    let l = follows-feed-once v (fedSays r) (fedSays t) s s₁ s₂ c c₁ c₂ p p₁ p₂ (fed-on (g .store) (g .carry) (g .store-is) (g .carry-is) f) (g .leaves) in
+    record { answer = fed-says-once r t (l .0); carries = l .1; replies = l .2; stores = l .3 }
+
+pub finished-once : {c : List ℕ} (r t : Finish) → Finished c r → Finished c t → r ≡ t
+finished-once {c} r t f g =
+    finish-says-once r t
+    (f .says ∙ ap (λ (k : Carried). finishedAs (finishOn k)) (carried-once c (f .carry) (g .carry) (f .carry-is) (g .carry-is)) ∙ sym (g .says))

@@ -17,10 +17,11 @@ use Rattle.s3_fifo.specs.declared.Creation.the-variants.{Made, Refused a
 use Rattle.s3_fifo.specs.declared.Ran.{Ran}
 use Rattle.s3_fifo.specs.declared.Ran.the-variants.{Done, Refused}
 
--- an answer in the rules' terms (RULES 7, RULES 8): so many reply bytes; or turned away by a number, with a detail
+-- an answer in the rules' terms (RULES 7, RULES 8): so many reply bytes; so many, and the stream stops at a mark with that offset; or turned away by a number,
+-- with a detail
 pub data Said : Type 0 where
   gave : ℕ → Said
-  turned : ℕ → ℕ → Said
+  halted turned : ℕ → ℕ → Said
 
 abbrev pub createdSays : Creation → Said
 createdSays Made = gave 0

@@ -10,6 +10,7 @@ use Rattle.rules.specs.State.{Limits, State, emptyAt, keyed, residents, Sound}
 use Rattle.rules.specs.Records.{Request, IN, AllNarrow}
 use Rattle.rules.specs.Requests.{apply, run}
 use Rattle.rules.specs.Bytes.{encodeAll, parse}
+use Rattle.rules.specs.Feed.{completedOf}
 use Rattle.rules.specs.Sizing.{limitsFor}
 use Rattle.rules.specs.Refusals.{storeBytes}
 use Rattle.rules.specs.Ledger.{Answered, history}
@@ -20,19 +21,33 @@ use Rattle.store.specs.Holds.{Holds}
 use Rattle.s3_fifo.specs.declared.Creation.the-variants.{Made}
 use Rattle.s3_fifo.specs.declared.Ran.{Ran}
 use Rattle.s3_fifo.specs.declared.Ran.the-variants.{Done}
+use Rattle.s3_fifo.specs.declared.Fed.{Fed}
+use Rattle.s3_fifo.specs.declared.Fed.the-variants.{Done as Given, Stopped, Refused as Away}
 use Rattle.s3_fifo.specs.Calls.{turned, ranSays, Created, Called}
+use Rattle.s3_fifo.specs.Feeds.{fedSays, FedAs}
 
 -- the limits that settings stand for, where they are not refused
 abbrev pub limitsMade : Settings → Limits
 limitsMade settings = limitsFor (settings .capacity) (settings .«small_ratio») (settings .«ghost_ratio»)
 
--- the store now, the state that it held at first, the requests of all accepted calls since, and the reply bytes to them
+-- a feed that was not turned away, with so many reply bytes; it may have stopped the stream
+abbrev pub Took : Fed → ℕ → Type 0
+Took (Given n) m = n ≡ m
+Took (Stopped n at) m = n ≡ m
+Took (Away t) m = ⊥
+
+-- the store now, the state that it held at first, the requests carried out since, by calls and by feeds of any streams, and the reply bytes to them. A finish
+-- is lent no store
 pub data Chain : List ℕ → State → List Request → List ℕ → Type 0 where
   start : {settings : Settings} {s s′ : List ℕ} → Created settings s Made s′ → Chain s′ (emptyAt (limitsMade settings)) [] []
   accepted : {s q p s′ p′ : List ℕ} {n : ℕ} {σ₀ : State} {rs : List Request} {bs : List ℕ} → Chain s σ₀ rs bs → Bytes q
       → Called s q p (Done n) s′ p′ → Chain s′ σ₀ (rs ++ parse q .requests) (bs ++ take n p′)
   refused : {s q p s′ p′ : List ℕ} {r : Ran} {σ₀ : State} {rs : List Request} {bs : List ℕ} (n d : ℕ) → Chain s σ₀ rs bs
       → Called s q p r s′ p′ → ranSays r ≡ turned n d → Chain s′ σ₀ rs bs
+  fed : {s c q p s′ c′ p′ : List ℕ} {r : Fed} (n : ℕ) {σ₀ : State} {rs : List Request} {bs : List ℕ} → Chain s σ₀ rs bs → Bytes c → Bytes q
+      → (f : FedAs s c q p r s′ c′ p′) → Took r n → Chain s′ σ₀ (rs ++ completedOf (f .carry) q) (bs ++ take n p′)
+  unfed : {s c q p s′ c′ p′ : List ℕ} {r : Fed} {σ₀ : State} {rs : List Request} {bs : List ℕ} (n d : ℕ) → Chain s σ₀ rs bs
+      → FedAs s c q p r s′ c′ p′ → fedSays r ≡ turned n d → Chain s′ σ₀ rs bs
 
 -- ---- what is promised of a chain
 

@@ -1,5 +1,7 @@
 pub mod Calls
 pub mod Runs
+pub mod Feeds
 pub mod Once
 pub mod Chains
+pub mod Streams
 pub mod Promises

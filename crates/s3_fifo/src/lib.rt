@@ -37,6 +37,22 @@ pub enum Ran {
     Refused(Turned),
 }
 
+// What a feed answers.
+pub enum Fed {
+    // So many reply bytes; the stream goes on.
+    Done(usize),
+    // So many reply bytes, and the offset of the unknown mark that stops the stream now.
+    Stopped(usize, u64),
+    // Turned away, also because the stream had stopped before; nothing has changed.
+    Refused(Turned),
+}
+
+// What a finish answers.
+pub enum Finish {
+    Complete,
+    Refused(Turned),
+}
+
 // Writes the reply of a pair that was pushed out.
 fn put_pushed(replies: &mut [u8], at: usize, pushed: Pushed) -> usize
     requires { ⌜ at + length (encodeAll (pushedOf pushed)) ≤ length (now replies) ⌝ }

@@ -1,0 +1,10 @@
+-- The worked feeds, from the rules.
+-- Assumes nothing.
+use mathlib.Core.Path.{refl}
+use Rattle.rules.specs.Bytes.{allWritten}
+use Rattle.rules.specs.Feed.{feed}
+use Rattle.rules.specs.FeedTraces.{FeedRows}
+
+pub feed-rows : FeedRows
+unfolding feed allWritten
+feed-rows = record { feeds = refl; long = refl; finishes = refl }

@@ -2,11 +2,11 @@
 -- Assumes nothing.
 use mathlib.Core.Path.{_≡_}
 use mathlib.Core.List.{List, _++_}
-use Prim.Native.Nat.{ℕ, _+_, _-_, _≤_}
+use Prim.Native.Nat.{ℕ, _+_, _-_, _≤_, _<_}
 use lib.ListN.{length, take}
 use Rattle.rules.specs.Bytes.{unknownAt, cutAt, ends, parseFrom, parse}
 use Rattle.rules.specs.Carry.{leftBy}
-use Rattle.carry.specs.Carries.{mostKept}
+use Rattle.carry.specs.Carries.{mostKept, headBytes}
 use Rattle.carry.specs.declared.Head.{Head}
 use Rattle.carry.specs.declared.Head.the-variants.{Whole, Cut, Unknown}
 
@@ -29,3 +29,12 @@ pub record Joins (kept piece head : List ℕ) (r : Head) : Type 0 where
   pub whole : (n : ℕ) → r ≡ Whole n → Completes kept piece head n
   pub cut : (n : ℕ) → r ≡ Cut n → StillCut kept piece head n
   pub unknown : r ≡ Unknown → parse (kept ++ piece) ≡ ends (unknownAt 0)
+
+-- the first n bytes of the buffer are the first of the bytes kept with the piece behind them: as many as there are, and as a record can have
+pub record Filled (kept piece head : List ℕ) (n : ℕ) : Type 0 where
+  pub long : length head ≡ headBytes
+  pub fits : n ≤ headBytes
+  pub begun : length kept ≤ n
+  pub within : n ≤ length (kept ++ piece)
+  pub full : n < headBytes → n ≡ length (kept ++ piece)
+  pub bytes : take n head ≡ take n (kept ++ piece)

@@ -3,11 +3,12 @@
 ghost use mathlib.Core.Path.{_≡_};
 ghost use mathlib.Core.Bool.{true};
 ghost use Prim.Native.Nat.{_+_, _≤_};
-ghost use lib.ListN.{length, drop};
+ghost use lib.ListN.{length, drop, replicate};
+ghost use Rattle.cells.specs.Decides.{Decides};
 ghost use Rattle.rules.specs.Bytes.{spotAt};
 ghost use Rattle.rules.specs.Carry.{waits, carryBytes, keptRoom};
-ghost use Rattle.carry.specs.Carries.{mostKept, headBytes, keptIn, Brings, Put};
-ghost use Rattle.carry.specs.Heads.{Joins};
+ghost use Rattle.carry.specs.Carries.{mostKept, headBytes, keptIn, LaidOut, FormOf, Halts, Goes, Brings, Put};
+ghost use Rattle.carry.specs.Heads.{Filled, Joins};
 use wire::Record;
 
 // Where the number of bytes kept stands, the byte that says whether the stream has stopped, and the first of the bytes kept. The offset is in front.
@@ -42,23 +43,34 @@ pub enum Head {
     Unknown,
 }
 
+// Writes the record over zeros, as many as it has bytes. The bytes kept are those of `from` from `at` on.
+fn lay_out(form: &mut [u8], offset: u64, stopped: bool, from: &[u8], at: usize)
+    requires { ⌜ (now form ≡ replicate carryBytes 0) × (at ≤ length (now from)) × (length (now from) ≤ at + keptRoom) ⌝ }
+    ensures { λ _. ⌜ LaidOut (record { offset = offset; kept = drop at (now (from .entry)); stopped = stopped }) (now (form .exit)) ⌝ }
+{
+    cells::put64(form, 0, offset);
+    form[COUNT_AT] = (from.len() - at) as u8;
+    form[STOPPED_AT] = stopped as u8;
+    bytes::copy(&from[at..], &mut form[KEPT_AT..]);
+}
+
 // Writes the record. The bytes kept are those of `from` from `at` on.
 pub fn put(carry: &mut [u8], offset: u64, stopped: bool, from: &[u8], at: usize)
     requires { ⌜ (carryBytes ≤ length (now carry)) × (at ≤ length (now from)) × (length (now from) ≤ at + keptRoom) ⌝ }
     ensures { λ _. ⌜ Put (now (carry .entry)) (record { offset = offset; kept = drop at (now (from .entry)); stopped = stopped }) (now (carry .exit)) ⌝ }
 {
-    let mut written = [0u8; rules::CARRY_BYTES];
-    cells::put64(&mut written, 0, offset);
-    written[COUNT_AT] = (from.len() - at) as u8;
-    written[STOPPED_AT] = stopped as u8;
-    bytes::copy(&from[at..], &mut written[KEPT_AT..]);
-    bytes::copy(&written, carry);
+    let mut form = [0u8; rules::CARRY_BYTES];
+    lay_out(&mut form, offset, stopped, from, at);
+    bytes::copy(&form, carry);
 }
 
 // Whether the bytes lent are the one form of what they say: nothing else stands in them.
-fn is_form(carry: &[u8], offset: u64, count: usize, stopped: bool) -> bool {
+fn is_form(carry: &[u8], offset: u64, count: usize, stopped: bool) -> bool
+    requires { ⌜ (carryBytes ≤ length (now carry)) × (count ≤ mostKept) ⌝ }
+    ensures { λ r. ⌜ Decides (FormOf (now (carry .entry)) offset count stopped) r ⌝ }
+{
     let mut form = [0u8; rules::CARRY_BYTES];
-    put(
+    lay_out(
         &mut form,
         offset,
         stopped,
@@ -69,7 +81,9 @@ fn is_form(carry: &[u8], offset: u64, count: usize, stopped: bool) -> bool {
 }
 
 // A record that says that the stream has stopped: nothing is kept, and both bytes of the mark have come.
-fn judge_stopped(offset: u64, count: usize) -> Brought {
+fn judge_stopped(offset: u64, count: usize) -> Brought
+    ensures { λ r. ⌜ Halts offset count r ⌝ }
+{
     if count != 0 {
         return Brought::Unfit;
     }
@@ -80,7 +94,10 @@ fn judge_stopped(offset: u64, count: usize) -> Brought {
 }
 
 // A record that says that the stream goes on: what is kept is no whole record, and no mark that is known to be none.
-fn judge_going(carry: &[u8], offset: u64, count: usize) -> Brought {
+fn judge_going(carry: &[u8], offset: u64, count: usize) -> Brought
+    requires { ⌜ (carryBytes ≤ length (now carry)) × (count ≤ mostKept) ⌝ }
+    ensures { λ r. ⌜ Goes (now (carry .entry)) offset count r ⌝ }
+{
     if u64::MAX - offset < count as u64 {
         return Brought::Unfit;
     }
@@ -120,7 +137,10 @@ pub fn read(carry: &[u8]) -> Brought
 }
 
 // Puts the bytes kept and the first of the piece into the buffer, as many as a record can have, and gives how many they are.
-fn fill_head(carry: &[u8], count: usize, piece: &[u8], head: &mut [u8]) -> usize {
+fn fill_head(carry: &[u8], count: usize, piece: &[u8], head: &mut [u8]) -> usize
+    requires { ⌜ (carryBytes ≤ length (now carry)) × (count ≤ mostKept) × (length (now head) ≡ headBytes) ⌝ }
+    ensures { λ r. ⌜ Filled (keptIn (now (carry .entry)) count) (now (piece .entry)) (now (head .exit)) r ⌝ }
+{
     bytes::copy(&carry[KEPT_AT..KEPT_AT + count], head);
     let room = HEAD_BYTES - count;
     let more = if piece.len() < room {

@@ -1,0 +1,87 @@
+use borrow.Author.Needs.{needs}
+use Rattle.carry.proofs.lay_out.Statement.{statement}
+use Rattle.carry.proofs.lay_out.Tie as tie
+use Rattle.carry.proofs.lay_out.Reads as reads
+use Rattle.carry.proofs.lay_out.Lts as lts
+use Rattle.bytes.proofs.copy.Reads as copy-reads
+use Rattle.cells.proofs.put64.Reads as put64-reads
+
+-- src/lib.rt:51:5
+put64-requires : tie.Need-put64-requires
+put64-requires c κs = ?
+
+-- src/lib.rt:52:23
+sub-form : tie.Need-sub-form
+sub-form c = search needs
+
+-- src/lib.rt:52:22
+cast-form : tie.Need-cast-form
+cast-form c = search needs
+
+-- src/lib.rt:52:5
+slice-write-form : tie.Need-slice-write-form
+slice-write-form c = ?
+
+-- src/lib.rt:53:24
+cast-form-2 : tie.Need-cast-form-2
+cast-form-2 c = search needs
+
+-- src/lib.rt:53:5
+slice-write-form-2 : tie.Need-slice-write-form-2
+slice-write-form-2 c = ?
+
+-- src/lib.rt:54:17
+sub-copy : tie.Need-sub-copy
+sub-copy c = search needs
+
+-- src/lib.rt:54:17
+part-copy-start : tie.Need-part-copy-start
+part-copy-start c = search needs
+
+-- src/lib.rt:54:17
+part-copy-end : tie.Need-part-copy-end
+part-copy-end c = search needs
+
+-- src/lib.rt:54:30
+sub-copy-2 : tie.Need-sub-copy-2
+sub-copy-2 c = ?
+
+-- src/lib.rt:54:30
+part-copy-start-2 : tie.Need-part-copy-start-2
+part-copy-start-2 c = ?
+
+-- src/lib.rt:54:30
+part-copy-end-2 : tie.Need-part-copy-end-2
+part-copy-end-2 c = search needs
+
+-- src/lib.rt:54:5
+copy-requires : tie.Need-copy-requires
+copy-requires c κs = ?
+
+-- src/lib.rt:47:1
+same-length : tie.Need-same-length
+same-length c = ?
+
+-- src/lib.rt:47:1
+returns : tie.Need-returns
+returns c = ?
+
+pub lay-out-spec : {M : Type 1} → statement M
+lay-out-spec =
+    tie.close
+    (tie.spec
+    put64-requires
+    sub-form
+    cast-form
+    slice-write-form
+    cast-form-2
+    slice-write-form-2
+    sub-copy
+    part-copy-start
+    part-copy-end
+    sub-copy-2
+    part-copy-start-2
+    part-copy-end-2
+    copy-requires
+    same-length
+    returns)

@@ -45,12 +45,12 @@ pub enum Head {
 
 // Writes the record over zeros, as many as it has bytes. The bytes kept are those of `from` from `at` on.
 fn lay_out(form: &mut [u8], offset: u64, stopped: bool, from: &[u8], at: usize)
-    requires { ⌜ (now form ≡ replicate carryBytes 0) × (at ≤ length (now from)) × (length (now from) ≤ at + keptRoom) ⌝ }
+    requires { ⌜ (length (now form) ≡ carryBytes) × (now form ≡ replicate carryBytes 0) × (at ≤ length (now from)) × (length (now from) ≤ at + keptRoom) ⌝ }
     ensures { λ _. ⌜ LaidOut (record { offset = offset; kept = drop at (now (from .entry)); stopped = stopped }) (now (form .exit)) ⌝ }
 {
     cells::put64(form, 0, offset);
-    form[COUNT_AT] = (from.len() - at) as u8;
-    form[STOPPED_AT] = stopped as u8;
+    cells::put8(form, COUNT_AT, (from.len() - at) as u8);
+    cells::put8(form, STOPPED_AT, stopped as u8);
     bytes::copy(&from[at..], &mut form[KEPT_AT..]);
 }
 

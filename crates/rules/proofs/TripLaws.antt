@@ -22,7 +22,7 @@ bytes-length zero v = refl
 bytes-length (suc w) v = ap suc (bytes-length w (v / 256))
 
 -- a number read where it was written
-le-bytes : (w v : ℕ) (rest : List ℕ) → v < 256 ^ w → le w (bytesOf w v ++ rest) 0 ≡ v
+pub le-bytes : (w v : ℕ) (rest : List ℕ) → v < 256 ^ w → le w (bytesOf w v ++ rest) 0 ≡ v
 unfolding le bytesOf
 le-bytes zero v rest h = omega arith
 le-bytes (suc w) v rest h =

@@ -5,30 +5,31 @@ use Rattle.carry.proofs.lay_out.Reads as reads
 use Rattle.carry.proofs.lay_out.Lts as lts
 use Rattle.bytes.proofs.copy.Reads as copy-reads
 use Rattle.cells.proofs.put64.Reads as put64-reads
+use Rattle.cells.proofs.put8.Reads as put8-reads
 
 -- src/lib.rt:51:5
 put64-requires : tie.Need-put64-requires
-put64-requires c κs = ?
+put64-requires c κs = search needs
 
--- src/lib.rt:52:23
-sub-form : tie.Need-sub-form
-sub-form c = search needs
+-- src/lib.rt:52:34
+sub-put8 : tie.Need-sub-put8
+sub-put8 c = search needs
 
--- src/lib.rt:52:22
-cast-form : tie.Need-cast-form
-cast-form c = search needs
+-- src/lib.rt:52:33
+cast-put8 : tie.Need-cast-put8
+cast-put8 c = search needs
 
 -- src/lib.rt:52:5
-slice-write-form : tie.Need-slice-write-form
-slice-write-form c = ?
+put8-requires : tie.Need-put8-requires
+put8-requires c κs = search needs
 
--- src/lib.rt:53:24
-cast-form-2 : tie.Need-cast-form-2
-cast-form-2 c = search needs
+-- src/lib.rt:53:35
+cast-put8-2 : tie.Need-cast-put8-2
+cast-put8-2 c = search needs
 
 -- src/lib.rt:53:5
-slice-write-form-2 : tie.Need-slice-write-form-2
-slice-write-form-2 c = ?
+put8-requires-2 : tie.Need-put8-requires-2
+put8-requires-2 c κs = search needs
 
 -- src/lib.rt:54:17
 sub-copy : tie.Need-sub-copy
@@ -44,11 +45,11 @@ part-copy-end c = search needs
 
 -- src/lib.rt:54:30
 sub-copy-2 : tie.Need-sub-copy-2
-sub-copy-2 c = ?
+sub-copy-2 c = search needs
 
 -- src/lib.rt:54:30
 part-copy-start-2 : tie.Need-part-copy-start-2
-part-copy-start-2 c = ?
+part-copy-start-2 c = search needs
 
 -- src/lib.rt:54:30
 part-copy-end-2 : tie.Need-part-copy-end-2
@@ -56,11 +57,11 @@ part-copy-end-2 c = search needs
 
 -- src/lib.rt:54:5
 copy-requires : tie.Need-copy-requires
-copy-requires c κs = ?
+copy-requires c κs = search needs
 
 -- src/lib.rt:47:1
 same-length : tie.Need-same-length
-same-length c = ?
+same-length c = search needs
 
 -- src/lib.rt:47:1
 returns : tie.Need-returns
@@ -71,11 +72,11 @@ lay-out-spec =
     tie.close
     (tie.spec
     put64-requires
-    sub-form
-    cast-form
-    slice-write-form
-    cast-form-2
-    slice-write-form-2
+    sub-put8
+    cast-put8
+    put8-requires
+    cast-put8-2
+    put8-requires-2
     sub-copy
     part-copy-start
     part-copy-end

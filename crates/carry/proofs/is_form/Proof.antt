@@ -1,4 +1,7 @@
+-- `carry::is_form` meets its contract.
+-- Assumes nothing.
 use borrow.Author.Needs.{needs}
+use Rattle.carry.proofs.FormLaws.{form-decides}
 use Rattle.carry.proofs.is_form.Statement.{statement}
 use Rattle.carry.proofs.is_form.Tie as tie
 use Rattle.carry.proofs.is_form.Reads as reads
@@ -52,7 +55,7 @@ same-requires c κs = search needs
 
 -- src/lib.rt:68:1
 returns : tie.Need-returns
-returns c = ?
+returns c = search form-decides
 
 pub is-form-spec : {M : Type 1} → statement M
 is-form-spec =

@@ -1,4 +1,7 @@
+-- `carry::lay_out` meets its contract.
+-- Assumes nothing.
 use borrow.Author.Needs.{needs}
+use Rattle.carry.proofs.FormLaws.{laid-out}
 use Rattle.carry.proofs.lay_out.Statement.{statement}
 use Rattle.carry.proofs.lay_out.Tie as tie
 use Rattle.carry.proofs.lay_out.Reads as reads
@@ -65,7 +68,7 @@ same-length c = search needs
 
 -- src/lib.rt:47:1
 returns : tie.Need-returns
-returns c = ?
+returns c = search laid-out
 
 pub lay-out-spec : {M : Type 1} → statement M
 lay-out-spec =

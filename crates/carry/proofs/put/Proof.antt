@@ -1,4 +1,7 @@
+-- `carry::put` meets its contract.
+-- Assumes nothing.
 use borrow.Author.Needs.{needs}
+use Rattle.carry.proofs.FormLaws.{put-front}
 use Rattle.carry.proofs.put.Statement.{statement}
 use Rattle.carry.proofs.put.Tie as tie
 use Rattle.carry.proofs.put.Reads as reads
@@ -28,7 +31,7 @@ same-length c = search needs
 
 -- src/lib.rt:58:1
 returns : tie.Need-returns
-returns c = ?
+returns c = search put-front
 
 pub put-spec : {M : Type 1} → statement M
 put-spec =

@@ -1,13 +1,13 @@
 -- The laws of reading what is carried: what each test and each judgement says of the bytes lent, and what a caller has from the answer.
 -- Assumes nothing.
-use mathlib.Core.Path.{_≡_, refl, sym, ap, subst, _∙_}
+use mathlib.Core.Path.{_≡_, refl, sym, ap, ap₂, subst, _∙_}
 use mathlib.Core.Bool.{Bool, true, false, not, cond, _&&_}
 use mathlib.Core.List.{List, []}
-use Prim.Native.Nat.{ℕ, _+_, _-_, _%_, _≤_, _<_}
+use Prim.Native.Nat.{ℕ, _+_, _-_, _%_, _^_, _≤_, _<_}
 use native.Mathlib.Decide.{decLe}
 use native.Mathlib.Omega.{arith}
 use lib.Dec.{eqb, leb}
-use lib.ListN.{length, getD, take, drop, length-drop}
+use lib.ListN.{length, getD, take, drop, length-take, length-drop}
 use lib.Seq.{take-all, length-take-le}
 use borrow.Author.Tests.{not-true, not-false, eqb-true, eq-eqb, ne-eqb, leb-true, le-leb, lt-leb}
 use mir.Syntax.{w8, w64}
@@ -21,6 +21,8 @@ use Rattle.rules.proofs.FeedCouldLaws.{and-both, and-true}
 use Rattle.rules.proofs.HeadLaws.{pending, read-pending}
 use Rattle.rules.proofs.CarryLaws.{could-even, could-stop, could-wait, could-few, stop-could, wait-could, shown, only-shown, count-shown}
 use Rattle.wire.specs.declared.Record.{Record}
+use Rattle.wire.specs.declared.Record.the-variants.{Ask, Unknown, Cut, End}
+use Rattle.wire.specs.declared.Request.{Request as Request·}
 use Rattle.wire.specs.Wire.{meaning}
 use Rattle.carry.specs.declared.Brought.{Brought}
 use Rattle.carry.specs.declared.Brought.the-variants.{Going, Stopped, Unfit}
@@ -41,4 +43,109 @@ module _ (o n : ℕ) where
 
   pub halts-at : n ≡ 0 → o ≤ 18446744073709551613 → Halts o n (Stopped o)
   halts-at e h = record { is = rw (eq-eqb n 0 e, le-leb (o + 2) lastOffset (omega arith)) }
+
+and-no : (t : Bool) → (t && false) ≡ false
+and-no true = refl
+and-no false = refl
+
+module _ (bs : List ℕ) (o n : ℕ) where
+  pub goes-last : 18446744073709551615 - o < n → Goes bs o n Unfit
+  goes-last h = record { is = rw (lt-leb (o + n) lastOffset (omega arith), and-no (waits (spotAt (keptIn bs n) 0))) }
+
+  module _ (r : Record) (e : meaning r ≡ readAt (take (10 + n - 10) (drop 10 bs)) 0) where
+    -- whether the bytes kept wait is said by what was read of them
+    kept-waits : waits (spotAt (keptIn bs n) 0) ≡ pending (meaning r)
+    kept-waits =
+        let m : 10 + n - 10 ≡ n = omega arith in
+        let k : take (10 + n - 10) (drop 10 bs) ≡ keptIn bs n = ap (λ (m : ℕ). take m (drop 10 bs)) m in
+        read-pending (keptIn bs n) (meaning r) (ap (λ (l : List ℕ). readAt l 0) (sym k) ∙ sym e)
+
+    goes-not : pending (meaning r) ≡ false → Goes bs o n Unfit
+    goes-not h = record { is = rw (kept-waits, h) }
+
+    goes-on : pending (meaning r) ≡ true → n ≤ 18446744073709551615 - o → o < 2 ^ 64 → Goes bs o n (Going o n)
+    goes-on h l f = record { is = rw (kept-waits, h, le-leb (o + n) lastOffset (omega arith)) }
+
+    pub goes-whole : {q : Request·} {after : ℕ} → r ≡ Ask q after → Goes bs o n Unfit
+    goes-whole f = goes-not (ap (λ (x : Record). pending (meaning x)) f)
+
+    pub goes-unknown : r ≡ Unknown → Goes bs o n Unfit
+    goes-unknown f = goes-not (ap (λ (x : Record). pending (meaning x)) f)
+
+    pub goes-cut : r ≡ Cut → n ≤ 18446744073709551615 - o → o < 2 ^ 64 → Goes bs o n (Going o n)
+    goes-cut f = goes-on (ap (λ (x : Record). pending (meaning x)) f)
+
+    pub goes-none : r ≡ End → n ≤ 18446744073709551615 - o → o < 2 ^ 64 → Goes bs o n (Going o n)
+    goes-none f = goes-on (ap (λ (x : Record). pending (meaning x)) f)
+
+-- ---- the tests
+
+module _ (bs : List ℕ) where
+  pub unfit-short : length bs < carryBytes → Brings bs Unfit
+  unfit-short h = record { is = λ c a. omega (arith, a .long) }
+
+  pub unfit-count : mostKept < getD bs 8 0 → Brings bs Unfit
+  unfit-count h = record { is = λ c a. omega (arith, count-shown a, could-few c (a .could)) }
+
+  -- there is no record but the one shown
+  unfit-shown : (CarryAs bs (shown bs) → ⊥) → Brings bs Unfit
+  unfit-shown h = record { is = λ c a. h (subst (CarryAs bs) (only-shown a) a) }
+
+  module _ {o : ℕ} (e : o ≡ le 8 bs 0) where
+    pub unfit-form : {r : Bool} → Decides (FormOf bs o (getD bs 8 0) (eqb (getD bs 9 0) 1)) r → not r ≡ true → Brings bs Unfit
+    unfit-form {r} d f =
+        unfit-shown (λ a. d .fails (not-true r f) (record { is = a .written ∙ ap (λ (n : ℕ). carryWritten (record { offset = n; kept = shown bs .kept; stopped = shown bs .stopped })) (sym e) }))
+
+    pub unfit-odd : o % 2 ≡ 1 → Brings bs Unfit
+    unfit-odd h = unfit-shown (λ a. omega (arith, could-even (shown bs) (a .could)))
+
+    module _ (long : carryBytes ≤ length bs) {r : Bool} (d : Decides (FormOf bs o (getD bs 8 0) (eqb (getD bs 9 0) 1)) r) (f : not r ≡ false) (odd : o % 2 ≡ 1 → ⊥) where
+      n : ℕ
+      n = getD bs 8 0
+
+      two : o % 2 ≡ 0
+      two = omega arith
+
+      form : take carryBytes bs ≡ carryWritten (record { offset = o; kept = keptIn bs (getD bs 8 0); stopped = eqb (getD bs 9 0) 1 })
+      form = d .holds (not-false r f) .is
+
+      pub brings-stopped : eqb (getD bs 9 0) 1 ≡ true → {q : Brought} → Halts o (getD bs 8 0) q → Brings bs q
+      brings-stopped t {q} h = go (eqb (getD bs 8 0) 0 && leb (o + 2) lastOffset) refl (h .is)
+        where
+          go : (u : Bool) → (eqb (getD bs 8 0) 0 && leb (o + 2) lastOffset) ≡ u → q ≡ cond u (Stopped o) Unfit → Brings bs q
+          go true g k =
+              let p = and-both (eqb (getD bs 8 0) 0) (leb (o + 2) lastOffset) g in
+              let none : keptIn bs (getD bs 8 0) ≡ [] = ap (λ (n : ℕ). keptIn bs n) (eqb-true (getD bs 8 0) 0 (p .0)) in
+              let w : take carryBytes bs ≡ carryWritten (record { offset = o; kept = []; stopped = true }) =
+              form ∙ ap₂ (λ (l : List ℕ) (t : Bool). carryWritten (record { offset = o; kept = l; stopped = t })) none t in
+              subst (Brings bs) (sym k) (record { is = record { long = long; written = w; could = stop-could o two (leb-true (o + 2) lastOffset (p .1)) } })
+          go false g k =
+              subst (Brings bs) (sym k)
+              (unfit-shown (λ a.
+                let p = could-stop (shown bs) (a .could) t in
+                let m : getD bs 8 0 ≡ 0 = count-shown a ∙ ap length (p .0) in
+                let yes = and-true (eqb (getD bs 8 0) 0) (leb (o + 2) lastOffset) (eq-eqb (getD bs 8 0) 0 m) (le-leb (o + 2) lastOffset (omega (arith, p .1))) in
+                let z : _≡_ {A = ℕ} 0 1 = cc in
+                omega arith))
+
+      pub brings-going : eqb (getD bs 9 0) 1 ≡ false → {q : Brought} → Goes bs o (getD bs 8 0) q → Brings bs q
+      brings-going t {q} h = go (waits (spotAt (keptIn bs (getD bs 8 0)) 0) && leb (o + getD bs 8 0) lastOffset) refl (h .is)
+        where
+          go : (u : Bool) → (waits (spotAt (keptIn bs (getD bs 8 0)) 0) && leb (o + getD bs 8 0) lastOffset) ≡ u → q ≡ cond u (Going o (getD bs 8 0)) Unfit → Brings bs q
+          go true g k =
+              let m : ℕ = getD bs 8 0 in
+              let p = and-both (waits (spotAt (keptIn bs m) 0)) (leb (o + m) lastOffset) g in
+              let w : take carryBytes bs ≡ carryWritten (record { offset = o; kept = keptIn bs m; stopped = false }) =
+              form ∙ ap (λ (t : Bool). carryWritten (record { offset = o; kept = keptIn bs m; stopped = t })) t in
+              let i : length (keptIn bs m) ≤ m = omega (arith, length-take m (drop 10 bs)) in
+              let c = wait-could o (keptIn bs m) two (p .0) (omega (arith, leb-true (o + m) lastOffset (p .1))) in
+              subst (Brings bs) (sym k) (record { is = record { long = long; written = w; could = c } })
+          go false g k =
+              subst (Brings bs) (sym k)
+              (unfit-shown (λ a.
+                let m : ℕ = getD bs 8 0 in
+                let p = could-wait (shown bs) (a .could) t in
+                let yes = and-true (waits (spotAt (keptIn bs m) 0)) (leb (o + m) lastOffset) (p .0) (le-leb (o + m) lastOffset (omega (arith, p .1, count-shown a))) in
+                let z : _≡_ {A = ℕ} 0 1 = cc in
+                omega arith))
 

@@ -1,4 +1,7 @@
+-- `carry::judge_going` meets its contract.
+-- Assumes nothing.
 use borrow.Author.Needs.{needs}
+use Rattle.carry.proofs.CarriesLaws.{goes-last, goes-whole, goes-unknown, goes-cut, goes-none}
 use Rattle.carry.proofs.judge_going.Statement.{statement}
 use Rattle.carry.proofs.judge_going.Tie as tie
 use Rattle.carry.proofs.judge_going.Reads as reads
@@ -11,7 +14,7 @@ sub-if1 c = search needs
 
 -- src/lib.rt:102:9
 returns : tie.Need-returns
-returns c = ?
+returns c = search goes-last
 
 -- src/lib.rt:104:45
 add-next : tie.Need-add-next
@@ -51,19 +54,19 @@ enum-told-4 c = search needs
 
 -- src/lib.rt:97:1
 returns-2 : tie.Need-returns-2
-returns-2 c = ?
+returns-2 c = search goes-whole
 
 -- src/lib.rt:97:1
 returns-3 : tie.Need-returns-3
-returns-3 c = ?
+returns-3 c = search goes-unknown
 
 -- src/lib.rt:97:1
 returns-4 : tie.Need-returns-4
-returns-4 c = ?
+returns-4 c = search (needs, goes-cut)
 
 -- src/lib.rt:97:1
 returns-5 : tie.Need-returns-5
-returns-5 c = ?
+returns-5 c = search (needs, goes-none)
 
 pub judge-going-spec : {M : Type 1} → statement M
 judge-going-spec =

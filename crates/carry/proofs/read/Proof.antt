@@ -1,4 +1,7 @@
+-- `carry::read` meets its contract.
+-- Assumes nothing.
 use borrow.Author.Needs.{needs}
+use Rattle.carry.proofs.CarriesLaws.{cast8, unfit-short, unfit-count, unfit-form, unfit-odd, brings-stopped, brings-going}
 use Rattle.carry.proofs.read.Statement.{statement}
 use Rattle.carry.proofs.read.Tie as tie
 use Rattle.carry.proofs.read.Reads as reads
@@ -10,7 +13,7 @@ use Rattle.cells.proofs.get64.Reads as get64-reads
 
 -- src/lib.rt:118:9
 returns : tie.Need-returns
-returns c = search needs
+returns c = search unfit-short
 
 -- src/lib.rt:120:17
 shared-slice-read-count : tie.Need-shared-slice-read-count
@@ -18,11 +21,11 @@ shared-slice-read-count c = search needs
 
 -- src/lib.rt:120:17
 cast-count : tie.Need-cast-count
-cast-count c = ?
+cast-count c = search cast8
 
 -- src/lib.rt:122:9
 returns-2 : tie.Need-returns-2
-returns-2 c = ?
+returns-2 c = search unfit-count
 
 -- src/lib.rt:124:9
 get64-requires : tie.Need-get64-requires
@@ -38,11 +41,11 @@ is-form-requires c κs = search needs
 
 -- src/lib.rt:127:9
 returns-3 : tie.Need-returns-3
-returns-3 c = ?
+returns-3 c = search unfit-form
 
 -- src/lib.rt:130:9
 returns-4 : tie.Need-returns-4
-returns-4 c = ?
+returns-4 c = search unfit-odd
 
 -- src/lib.rt:133:9
 judge-stopped-requires : tie.Need-judge-stopped-requires
@@ -54,11 +57,11 @@ judge-going-requires c κs = search needs
 
 -- src/lib.rt:114:1
 returns-5 : tie.Need-returns-5
-returns-5 c = ?
+returns-5 c = search brings-stopped
 
 -- src/lib.rt:114:1
 returns-6 : tie.Need-returns-6
-returns-6 c = ?
+returns-6 c = search brings-going
 
 pub read-spec : {M : Type 1} → statement M
 read-spec =

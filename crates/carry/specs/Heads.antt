@@ -38,3 +38,9 @@ pub record Filled (kept piece head : List ℕ) (n : ℕ) : Type 0 where
   pub within : n ≤ length (kept ++ piece)
   pub full : n < headBytes → n ≡ length (kept ++ piece)
   pub bytes : take n head ≡ take n (kept ++ piece)
+
+-- the lesser of a and b
+pub record Lesser (a b r : ℕ) : Type 0 where
+  pub first : r ≤ a
+  pub second : r ≤ b
+  pub one : r < b → r ≡ a

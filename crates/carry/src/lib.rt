@@ -8,7 +8,7 @@ ghost use Rattle.cells.specs.Decides.{Decides};
 ghost use Rattle.rules.specs.Bytes.{spotAt};
 ghost use Rattle.rules.specs.Carry.{waits, carryBytes, keptRoom};
 ghost use Rattle.carry.specs.Carries.{mostKept, headBytes, keptIn, LaidOut, FormOf, Halts, Goes, Brings, Put};
-ghost use Rattle.carry.specs.Heads.{Filled, Joins};
+ghost use Rattle.carry.specs.Heads.{Lesser, Filled, Joins};
 use wire::Record;
 
 // Where the number of bytes kept stands, the byte that says whether the stream has stopped, and the first of the bytes kept. The offset is in front.
@@ -136,18 +136,23 @@ pub fn read(carry: &[u8]) -> Brought
     }
 }
 
+// The lesser of two numbers.
+fn lesser(a: usize, b: usize) -> usize
+    ensures { λ r. ⌜ Lesser a b r ⌝ }
+{
+    if a < b {
+        return a;
+    }
+    b
+}
+
 // Puts the bytes kept and the first of the piece into the buffer, as many as a record can have, and gives how many they are.
 fn fill_head(carry: &[u8], count: usize, piece: &[u8], head: &mut [u8]) -> usize
     requires { ⌜ (carryBytes ≤ length (now carry)) × (count ≤ mostKept) × (length (now head) ≡ headBytes) ⌝ }
     ensures { λ r. ⌜ Filled (keptIn (now (carry .entry)) count) (now (piece .entry)) (now (head .exit)) r ⌝ }
 {
     bytes::copy(&carry[KEPT_AT..KEPT_AT + count], head);
-    let room = HEAD_BYTES - count;
-    let more = if piece.len() < room {
-        piece.len()
-    } else {
-        room
-    };
+    let more = lesser(piece.len(), HEAD_BYTES - count);
     bytes::copy(&piece[0..more], &mut head[count..]);
     count + more
 }

@@ -4,12 +4,13 @@ use mathlib.Core.Path.{_≡_, refl, sym, ap, ap₂, subst, _∙_}
 use mathlib.Core.Bool.{true}
 use mathlib.Core.List.{List, [], _++_, append-assoc, append-nil}
 use Prim.Native.Nat.{ℕ, _+_, _-_, _≤_, _<_}
-use native.Mathlib.Nat.{sub-zero}
+use native.Mathlib.Nat.{add-zero, sub-zero}
 use native.Mathlib.Omega.{arith}
 use lib.ListN.{length, take, drop, length-append, length-drop, drop-of-length-le}
 use lib.Seq.{take-all, length-take-le, take-take, take-at, take-append-add, take-length, take-append-le, drop-at}
-use Rattle.rules.specs.Bytes.{Reading, ask, strange, short, end, spotAt, readAt, parse, parseFrom}
-use Rattle.rules.specs.Carry.{waits, carryBytes}
+use Rattle.rules.specs.Records.{Request}
+use Rattle.rules.specs.Bytes.{ask, strange, short, spotAt, readAt, unknownAt, ends, walk, parseFrom, parse}
+use Rattle.rules.specs.Carry.{waits, leftBy, carryBytes}
 use Rattle.rules.proofs.ParseLaws.{read-goes}
 use Rattle.rules.proofs.FeedLaws.{end-end}
 use Rattle.rules.proofs.HeadLaws.{front-read, short-few, short-parse, strange-parse, past-kept, past-within, join-requests, join-left}
@@ -81,3 +82,91 @@ module _ (bs piece head : List ℕ) (count m : ℕ) (long : carryBytes ≤ lengt
       let f′ : part ≡ take (length p) p ++ drop (length p) (take (length h₁ - count) (drop count h₁)) =
       subst (λ (n : ℕ). part ≡ take (length (take n piece)) (take n piece) ++ drop (length (take n piece)) (take (length h₁ - count) (drop count h₁))) (sub-zero m) f in
       fills (overlaid k p head count k-length e′ f′ g)
+
+-- ---- the answers
+
+module _ {kept piece head : List ℕ} where
+  whole-joins : (n : ℕ) → Completes kept piece head n → Joins kept piece head (Whole n)
+  whole-joins n c = record {
+    whole = λ m e. let q : n ≡ m = cc in subst (Completes kept piece head) q c;
+    cut = λ m e. let z : _≡_ {A = ℕ} 0 1 = cc in absurd (omega arith);
+    unknown = λ e. let z : _≡_ {A = ℕ} 0 1 = cc in absurd (omega arith);
+  }
+
+  cut-joins : (n : ℕ) → StillCut kept piece head n → Joins kept piece head (Cut n)
+  cut-joins n c = record {
+    whole = λ m e. let z : _≡_ {A = ℕ} 0 1 = cc in absurd (omega arith);
+    cut = λ m e. let q : n ≡ m = cc in subst (StillCut kept piece head) q c;
+    unknown = λ e. let z : _≡_ {A = ℕ} 0 1 = cc in absurd (omega arith);
+  }
+
+  unknown-joins : parse (kept ++ piece) ≡ ends (unknownAt 0) → Joins kept piece head Unknown
+  unknown-joins c = record {
+    whole = λ m e. let z : _≡_ {A = ℕ} 0 1 = cc in absurd (omega arith);
+    cut = λ m e. let z : _≡_ {A = ℕ} 0 1 = cc in absurd (omega arith);
+    unknown = λ e. c;
+  }
+
+-- no byte was kept: nothing is to be completed
+none-completes : (piece head : List ℕ) → Completes [] piece head 0
+unfolding parse parseFrom walk
+none-completes piece head = record {
+  fits = omega arith;
+  begun = omega arith;
+  within = omega arith;
+  requests = refl;
+  left = λ o. ap (λ (n : ℕ). leftBy n piece (parse piece .end)) (sym (add-zero o));
+}
+
+pub joins-none : (bs piece head : List ℕ) (count : ℕ) → count ≡ 0 → Joins (keptIn bs count) piece head (Whole 0)
+joins-none bs piece head count e = subst (λ (n : ℕ). Joins (keptIn bs n) piece head (Whole 0)) (sym e) (whole-joins 0 (none-completes piece head))
+
+module _ {kept piece head : List ℕ} {n : ℕ} (f : Filled kept piece head n) (r : Record) (e : meaning r ≡ readAt (take (n - 0) head) 0) where
+  -- what was read of the first bytes of all
+  front : readAt (take n (kept ++ piece)) 0 ≡ meaning r
+  front = sym (e ∙ ap (λ (l : List ℕ). readAt l 0) (ap (λ (i : ℕ). take i head) (sub-zero n) ∙ f .bytes))
+
+  front-length : length (take n (kept ++ piece)) ≡ n
+  front-length = length-take-le n (kept ++ piece) (f .within)
+
+  completes : waits (spotAt kept 0) ≡ true → (q : Request) (after : ℕ) → readAt (take n (kept ++ piece)) 0 ≡ ask q after → Completes kept piece head after
+  completes w q after a =
+      let all : readAt (kept ++ piece) 0 ≡ ask q after = front-read n (kept ++ piece) (ask q after) a tt in
+      let past = past-kept kept piece w q after all in
+      let inside : after ≤ n = omega (arith, read-goes (take n (kept ++ piece)) 0 q after a, front-length) in
+      let same : take after (kept ++ piece) ≡ take after head =
+      sym (take-take after n (kept ++ piece) inside) ∙ ap (take after) (sym (f .bytes)) ∙ take-take after n head inside in
+      record {
+        fits = omega (arith, f .fits, f .long);
+        begun = omega arith;
+        within = omega (arith, past-within kept piece w q after all);
+        requests = join-requests kept piece w q after all ∙ ap (λ (l : List ℕ). parse l .requests ++ parseFrom piece (after - length kept) .requests) same;
+        left = join-left kept piece w q after all;
+      }
+
+  pub joins-whole : waits (spotAt kept 0) ≡ true → {q : Request·} {after : ℕ} → r ≡ Ask q after → Joins kept piece head (Whole after)
+  joins-whole w {q} {after} g = whole-joins after (completes w (asked q) after (front ∙ ap meaning g))
+
+  pub joins-cut : r ≡ Cut· → Joins kept piece head (Cut n)
+  joins-cut g =
+      let a : readAt (take n (kept ++ piece)) 0 ≡ short = front ∙ ap meaning g in
+      let few : n < headBytes = omega (arith, short-few (take n (kept ++ piece)) a, front-length) in
+      let all : take n (kept ++ piece) ≡ kept ++ piece = take-all n (kept ++ piece) (omega (arith, f .full few)) in
+      cut-joins n (record {
+        fits = omega (arith, f .fits, f .long);
+        few = omega arith;
+        all = f .bytes ∙ all;
+        cut = short-parse (kept ++ piece) (ap (λ (l : List ℕ). readAt l 0) (sym all) ∙ a);
+      })
+
+  pub joins-unknown : r ≡ Unknown· → Joins kept piece head Unknown
+  joins-unknown g = unknown-joins (strange-parse (kept ++ piece) (front-read n (kept ++ piece) strange (front ∙ ap meaning g) tt))
+
+  none-kept : r ≡ End → length kept ≡ 0
+  none-kept g = omega (arith, end-end (take n (kept ++ piece)) 0 (front ∙ ap meaning g), front-length, f .begun)
+
+-- where bytes were kept there is something to read
+pub joins-end : (bs : List ℕ) (count : ℕ) {piece head : List ℕ} {n : ℕ} → Filled (keptIn bs count) piece head n → (r : Record) → meaning r ≡ readAt (take (n - 0) head) 0
+    → carryBytes ≤ length bs → count ≤ mostKept → (count ≡ 0 → ⊥) → r ≡ End → Joins (keptIn bs count) piece head (Whole 0)
+joins-end bs count f r e long few some g =
+    absurd (some (omega (arith, none-kept f r e g, length-take-le count (drop 10 bs) (omega (arith, length-drop 10 bs)))))

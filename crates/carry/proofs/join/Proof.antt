@@ -1,4 +1,7 @@
+-- `carry::join` meets its contract.
+-- Assumes nothing.
 use borrow.Author.Needs.{needs}
+use Rattle.carry.proofs.HeadsLaws.{joins-none, joins-whole, joins-unknown, joins-cut, joins-end}
 use Rattle.carry.proofs.join.Statement.{statement}
 use Rattle.carry.proofs.join.Tie as tie
 use Rattle.carry.proofs.join.Reads as reads
@@ -8,7 +11,7 @@ use Rattle.wire.proofs.next.Reads as next-reads
 
 -- src/lib.rt:161:9
 returns : tie.Need-returns
-returns c = ?
+returns c = search joins-none
 
 -- src/lib.rt:163:9
 fill-head-requires : tie.Need-fill-head-requires
@@ -52,7 +55,7 @@ same-length c = search needs
 
 -- src/lib.rt:156:1
 returns-2 : tie.Need-returns-2
-returns-2 c = ?
+returns-2 c = search joins-whole
 
 -- src/lib.rt:156:1
 same-length-2 : tie.Need-same-length-2
@@ -60,7 +63,7 @@ same-length-2 c = search needs
 
 -- src/lib.rt:156:1
 returns-3 : tie.Need-returns-3
-returns-3 c = ?
+returns-3 c = search joins-unknown
 
 -- src/lib.rt:156:1
 same-length-3 : tie.Need-same-length-3
@@ -68,7 +71,7 @@ same-length-3 c = search needs
 
 -- src/lib.rt:156:1
 returns-4 : tie.Need-returns-4
-returns-4 c = ?
+returns-4 c = search joins-cut
 
 -- src/lib.rt:156:1
 same-length-4 : tie.Need-same-length-4
@@ -76,7 +79,7 @@ same-length-4 c = search needs
 
 -- src/lib.rt:156:1
 returns-5 : tie.Need-returns-5
-returns-5 c = ?
+returns-5 c = search joins-end
 
 pub join-spec : {M : Type 1} → statement M
 join-spec =

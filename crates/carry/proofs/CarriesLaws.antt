@@ -4,22 +4,20 @@ use mathlib.Core.Path.{_≡_, refl, sym, ap, ap₂, subst, _∙_}
 use mathlib.Core.Bool.{Bool, true, false, not, cond, _&&_}
 use mathlib.Core.List.{List, []}
 use Prim.Native.Nat.{ℕ, _+_, _-_, _%_, _^_, _≤_, _<_}
-use native.Mathlib.Decide.{decLe}
 use native.Mathlib.Omega.{arith}
 use lib.Dec.{eqb, leb}
 use lib.ListN.{length, getD, take, drop, length-take, length-drop}
-use lib.Seq.{take-all, length-take-le}
+use lib.Seq.{length-take-le}
 use borrow.Author.Tests.{not-true, not-false, eqb-true, eq-eqb, ne-eqb, leb-true, le-leb, lt-leb}
 use mir.Syntax.{w8, w64}
 use mir.Val.{Fits}
 use Rattle.cells.specs.Cells.{le}
 use Rattle.cells.specs.Decides.{Decides}
-use Rattle.rules.specs.Records.{Request}
-use Rattle.rules.specs.Bytes.{Reading, spotAt, readAt}
-use Rattle.rules.specs.Carry.{Carry, lastOffset, waits, carryBytes, carryWritten, CarryAs}
+use Rattle.rules.specs.Bytes.{spotAt, readAt}
+use Rattle.rules.specs.Carry.{lastOffset, waits, carryBytes, carryWritten, CarryAs}
 use Rattle.rules.proofs.FeedCouldLaws.{and-both, and-true}
 use Rattle.rules.proofs.HeadLaws.{pending, read-pending}
-use Rattle.rules.proofs.CarryLaws.{could-even, could-stop, could-wait, could-few, stop-could, wait-could, shown, only-shown, count-shown}
+use Rattle.rules.proofs.CarryLaws.{waits-few, could-even, could-stop, could-wait, could-few, stop-could, wait-could, shown, only-shown, count-shown}
 use Rattle.wire.specs.declared.Record.{Record}
 use Rattle.wire.specs.declared.Record.the-variants.{Ask, Unknown, Cut, End}
 use Rattle.wire.specs.declared.Request.{Request as Request·}
@@ -122,11 +120,11 @@ module _ (bs : List ℕ) where
           go false g k =
               subst (Brings bs) (sym k)
               (unfit-shown (λ a.
-                let p = could-stop (shown bs) (a .could) t in
-                let m : getD bs 8 0 ≡ 0 = count-shown a ∙ ap length (p .0) in
-                let yes = and-true (eqb (getD bs 8 0) 0) (leb (o + 2) lastOffset) (eq-eqb (getD bs 8 0) 0 m) (le-leb (o + 2) lastOffset (omega (arith, p .1))) in
-                let z : _≡_ {A = ℕ} 0 1 = cc in
-                omega arith))
+              let p = could-stop (shown bs) (a .could) t in
+              let m : getD bs 8 0 ≡ 0 = count-shown a ∙ ap length (p .0) in
+              let yes = and-true (eqb (getD bs 8 0) 0) (leb (o + 2) lastOffset) (eq-eqb (getD bs 8 0) 0 m) (le-leb (o + 2) lastOffset (omega (arith, p .1))) in
+              let z : _≡_ {A = ℕ} 0 1 = cc in
+              omega arith))
 
       pub brings-going : eqb (getD bs 9 0) 1 ≡ false → {q : Brought} → Goes bs o (getD bs 8 0) q → Brings bs q
       brings-going t {q} h = go (waits (spotAt (keptIn bs (getD bs 8 0)) 0) && leb (o + getD bs 8 0) lastOffset) refl (h .is)
@@ -143,9 +141,39 @@ module _ (bs : List ℕ) where
           go false g k =
               subst (Brings bs) (sym k)
               (unfit-shown (λ a.
-                let m : ℕ = getD bs 8 0 in
-                let p = could-wait (shown bs) (a .could) t in
-                let yes = and-true (waits (spotAt (keptIn bs m) 0)) (leb (o + m) lastOffset) (p .0) (le-leb (o + m) lastOffset (omega (arith, p .1, count-shown a))) in
-                let z : _≡_ {A = ℕ} 0 1 = cc in
-                omega arith))
+              let m : ℕ = getD bs 8 0 in
+              let p = could-wait (shown bs) (a .could) t in
+              let yes = and-true (waits (spotAt (keptIn bs m) 0)) (leb (o + m) lastOffset) (p .0) (le-leb (o + m) lastOffset (omega (arith, p .1, count-shown a))) in
+              let z : _≡_ {A = ℕ} 0 1 = cc in
+              omega arith))
 
+-- ---- for the caller: what holds of the bytes kept by a stream that goes on
+
+module _ {bs : List ℕ} {r : Brought} {o n : ℕ} (b : Brings bs r) (e : r ≡ Going o n) where
+  carried : CarryAs bs (record { offset = o; kept = keptIn bs n; stopped = false })
+  carried = subst (Brings bs) e b .is
+
+  wait : (waits (spotAt (keptIn bs n) 0) ≡ true) × (o + length (keptIn bs n) ≤ lastOffset)
+  wait = could-wait (record { offset = o; kept = keptIn bs n; stopped = false }) (carried .could) refl
+
+  -- the bytes lent hold a record
+  pub going-long : carryBytes ≤ length bs
+  going-long = carried .long
+
+  -- the bytes kept wait for more
+  pub going-waits : waits (spotAt (keptIn bs n) 0) ≡ true
+  going-waits = wait .0
+
+  -- so they are fewer than a record can have
+  pub going-few : n ≤ mostKept
+  going-few =
+      let k = waits-few (keptIn bs n) going-waits in
+      omega (arith, length-take n (drop 10 bs), length-drop 10 bs, going-long)
+
+  -- and as many as the answer says
+  pub going-kept : length (keptIn bs n) ≡ n
+  going-kept = length-take-le n (drop 10 bs) (omega (arith, going-few, going-long, length-drop 10 bs))
+
+  -- they end at an offset
+  pub going-ends : o + n ≤ lastOffset
+  going-ends = omega (arith, wait .1, going-kept)

@@ -2,7 +2,7 @@
 -- Assumes nothing.
 use mathlib.Core.Path.{_≡_, refl, sym, ap, ap₂, _∙_}
 use mathlib.Core.Bool.{Bool, true, false}
-use mathlib.Core.List.{List, [], _∷_, _++_, append-nil}
+use mathlib.Core.List.{List, _∷_, _++_, append-nil}
 use Prim.Native.Nat.{ℕ, zero, suc, _+_, _-_, _%_, _≤_}
 use native.Mathlib.Nat.{sub-zero, zero-sub, suc-sub-suc}
 use native.Mathlib.Omega.{arith}
@@ -11,12 +11,10 @@ use lib.Seq.{take-all, take-length}
 use mir.Val.{boolByte}
 use Rattle.cells.specs.Cells.{putLe}
 use Rattle.cells.specs.Decides.{Decides}
-use Rattle.cells.proofs.DecidesLaws.{decides-map}
 use Rattle.rules.specs.Parts.{bit}
 use Rattle.rules.specs.Bytes.{bytesOf}
 use Rattle.rules.specs.Carry.{Carry, carryBytes, keptRoom, carryWritten}
-use Rattle.rules.proofs.CarryLaws.{carry-length}
-use Rattle.carry.specs.Carries.{mostKept, keptIn, LaidOut, FormOf, Put}
+use Rattle.carry.specs.Carries.{keptIn, LaidOut, FormOf, Put}
 
 -- ---- laid out over zeros
 
@@ -49,7 +47,7 @@ laid-behind o t k {s} e f g =
     g ∙ ap (λ (p : List ℕ). whole p s) (f ∙ ap (λ (l : List ℕ). l ++ drop (length k) (take (length s - 10) (drop 10 s))) (take-length k))
     ∙ ap (λ (l : List ℕ). whole (part-of l) l) e
     ∙ ap (λ (l : List ℕ). bytesOf 8 o ++ (length k ∷ bit t ∷ l))
-        (append-nil (k ++ drop (length k) (zeros keptRoom)) ∙ ap (λ (z : List ℕ). k ++ z) (fewer-zeros (length k) keptRoom))
+    (append-nil (k ++ drop (length k) (zeros keptRoom)) ∙ ap (λ (z : List ℕ). k ++ z) (fewer-zeros (length k) keptRoom))
 
 module _ (o : ℕ) (t : Bool) (from : List ℕ) (at : ℕ) where
   abbrev lent : List ℕ

@@ -7,7 +7,7 @@ use Prim.Native.Nat.{ℕ, _+_, _-_, _≤_, _<_}
 use native.Mathlib.Nat.{add-zero, sub-zero}
 use native.Mathlib.Omega.{arith}
 use lib.ListN.{length, take, drop, length-append, length-drop, drop-of-length-le}
-use lib.Seq.{take-all, length-take-le, take-take, take-at, take-append-add, take-length, take-append-le, drop-at}
+use lib.Seq.{take-all, length-take-le, take-take, take-at, take-append-add, take-length, drop-at}
 use Rattle.rules.specs.Records.{Request}
 use Rattle.rules.specs.Bytes.{ask, strange, short, spotAt, readAt, unknownAt, ends, walk, parseFrom, parse}
 use Rattle.rules.specs.Carry.{waits, leftBy, carryBytes}
@@ -18,7 +18,6 @@ use Rattle.wire.specs.declared.Record.{Record}
 use Rattle.wire.specs.declared.Record.the-variants.{Ask, Unknown as Unknown·, Cut as Cut·, End}
 use Rattle.wire.specs.declared.Request.{Request as Request·}
 use Rattle.wire.specs.Wire.{asked, meaning}
-use Rattle.carry.specs.declared.Head.{Head}
 use Rattle.carry.specs.declared.Head.the-variants.{Whole, Cut, Unknown}
 use Rattle.carry.specs.Carries.{mostKept, headBytes, keptIn}
 use Rattle.carry.specs.Heads.{Completes, StillCut, Joins, Filled, Lesser}

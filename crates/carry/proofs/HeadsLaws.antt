@@ -20,7 +20,8 @@ use Rattle.wire.specs.declared.Request.{Request as Request·}
 use Rattle.wire.specs.Wire.{asked, meaning}
 use Rattle.carry.specs.declared.Head.the-variants.{Whole, Cut, Unknown}
 use Rattle.carry.specs.Carries.{mostKept, headBytes, keptIn}
-use Rattle.carry.specs.Heads.{Completes, StillCut, Joins, Filled, Lesser}
+use Rattle.carry.proofs.FormLaws.{kept-part}
+use Rattle.carry.specs.Heads.{Completes, StillCut, Joins, HeadFilled, Lesser}
 
 -- ---- the buffer
 
@@ -39,13 +40,15 @@ overlaid k p head n l {h₁} {part} {h₂} e f g =
     g ∙ ap₂ (λ (x y : List ℕ). x ++ (part ++ y)) front none ∙ ap (λ (x : List ℕ). k ++ x) (append-nil part ∙ second) ∙ sym (append-assoc k p d)
 
 -- the bytes kept, and as many of the piece as there is room for
-module _ (bs piece head : List ℕ) (count m : ℕ) (long : carryBytes ≤ length bs) (few : count ≤ mostKept) (room : length head ≡ headBytes) (least : Lesser (length piece) (headBytes - count) m) where
+module _ (bs piece head : List ℕ) (count m : ℕ) (long : carryBytes ≤ length bs) (few : count ≤ mostKept) (room : length head ≡ headBytes)
+    (least : Lesser (length piece) (headBytes - count) m) where
   abbrev k : List ℕ
   k = keptIn bs count
 
   abbrev p : List ℕ
   p = take m piece
 
+  -- how many bytes each part has, and both
   k-length : length k ≡ count
   k-length = length-take-le count (drop 10 bs) (omega (arith, length-drop 10 bs))
 
@@ -55,7 +58,8 @@ module _ (bs piece head : List ℕ) (count m : ℕ) (long : carryBytes ≤ lengt
   both : length (k ++ p) ≡ count + m
   both = omega (arith, length-append k p, k-length, p-length)
 
-  fills : {h : List ℕ} → h ≡ k ++ p ++ drop (length p) (drop count head) → Filled k piece h (count + m)
+  -- with these in front the buffer is filled
+  fills : {h : List ℕ} → h ≡ k ++ p ++ drop (length p) (drop count head) → HeadFilled k piece h (count + m)
   fills {h} e =
       let d : List ℕ = drop (length p) (drop count head) in
       let b = least .second in
@@ -66,25 +70,34 @@ module _ (bs piece head : List ℕ) (count m : ℕ) (long : carryBytes ≤ lengt
         begun = omega (arith, k-length);
         within = omega (arith, all, k-length, least .first);
         full = λ h. omega (arith, all, k-length, least .one (omega arith));
-        bytes = ap (take (count + m)) e ∙ take-at (k ++ p) d (count + m) both ∙ sym (take-append-add k piece m) ∙ ap (λ (i : ℕ). take (i + m) (k ++ piece)) k-length;
+        bytes = ap (take (count + m)) e ∙ take-at (k ++ p) d (count + m) both ∙ sym (take-append-add k piece m)
+            ∙ ap (λ (i : ℕ). take (i + m) (k ++ piece)) k-length;
       }
 
+  -- the part of the bytes lent, and that of the piece, as the ranges give them
   abbrev lent : List ℕ
   lent = take (10 + count - 10) (drop 10 bs)
 
+  abbrev first : List ℕ
+  first = take (m - 0) piece
+
+  abbrev Copied : List ℕ → List ℕ → List ℕ → Type 0
+  Copied from before after = after ≡ take (length from) from ++ drop (length from) before
+
+  -- two copies fill it
   pub filled : {h₁ part h₂ : List ℕ} → h₁ ≡ take (length lent) lent ++ drop (length lent) head
-      → part ≡ take (length (take (m - 0) piece)) (take (m - 0) piece) ++ drop (length (take (m - 0) piece)) (take (length h₁ - count) (drop count h₁))
-      → h₂ ≡ take count h₁ ++ (part ++ drop (length h₁ - count) (drop count h₁)) → Filled (keptIn bs count) piece h₂ (count + m)
+      → part ≡ take (length first) first ++ drop (length first) (take (length h₁ - count) (drop count h₁))
+      → h₂ ≡ take count h₁ ++ (part ++ drop (length h₁ - count) (drop count h₁)) → HeadFilled (keptIn bs count) piece h₂ (count + m)
   filled {h₁} {part} e f g =
-      let i : 10 + count - 10 ≡ count = omega arith in
-      let e′ : h₁ ≡ take (length k) k ++ drop (length k) head = subst (λ (n : ℕ). h₁ ≡ take (length (take n (drop 10 bs))) (take n (drop 10 bs)) ++ drop (length (take n (drop 10 bs))) head) i e in
-      let f′ : part ≡ take (length p) p ++ drop (length p) (take (length h₁ - count) (drop count h₁)) =
-      subst (λ (n : ℕ). part ≡ take (length (take n piece)) (take n piece) ++ drop (length (take n piece)) (take (length h₁ - count) (drop count h₁))) (sub-zero m) f in
-      fills (overlaid k p head count k-length e′ f′ g)
+      let kept : Copied k head h₁ = subst (λ (l : List ℕ). Copied l head h₁) (kept-part bs count) e in
+      let more : Copied p (take (length h₁ - count) (drop count h₁)) part =
+      subst (λ (n : ℕ). Copied (take n piece) (take (length h₁ - count) (drop count h₁)) part) (sub-zero m) f in
+      fills (overlaid k p head count k-length kept more g)
 
 -- ---- the answers
 
 module _ {kept piece head : List ℕ} where
+  -- each answer says one thing
   whole-joins : (n : ℕ) → Completes kept piece head n → Joins kept piece head (Whole n)
   whole-joins n c = record {
     whole = λ m e. let q : n ≡ m = cc in subst (Completes kept piece head) q c;
@@ -117,17 +130,20 @@ none-completes piece head = record {
   left = λ o. ap (λ (n : ℕ). leftBy n piece (parse piece .end)) (sym (add-zero o));
 }
 
+-- the answer then
 pub joins-none : (bs piece head : List ℕ) (count : ℕ) → count ≡ 0 → Joins (keptIn bs count) piece head (Whole 0)
 joins-none bs piece head count e = subst (λ (n : ℕ). Joins (keptIn bs n) piece head (Whole 0)) (sym e) (whole-joins 0 (none-completes piece head))
 
-module _ {kept piece head : List ℕ} {n : ℕ} (f : Filled kept piece head n) (r : Record) (e : meaning r ≡ readAt (take (n - 0) head) 0) where
+module _ {kept piece head : List ℕ} {n : ℕ} (f : HeadFilled kept piece head n) (r : Record) (e : meaning r ≡ readAt (take (n - 0) head) 0) where
   -- what was read of the first bytes of all
   front : readAt (take n (kept ++ piece)) 0 ≡ meaning r
   front = sym (e ∙ ap (λ (l : List ℕ). readAt l 0) (ap (λ (i : ℕ). take i head) (sub-zero n) ∙ f .bytes))
 
+  -- and how many they are
   front-length : length (take n (kept ++ piece)) ≡ n
   front-length = length-take-le n (kept ++ piece) (f .within)
 
+  -- a whole record there is the one that the bytes kept begin
   completes : waits (spotAt kept 0) ≡ true → (q : Request) (after : ℕ) → readAt (take n (kept ++ piece)) 0 ≡ ask q after → Completes kept piece head after
   completes w q after a =
       let all : readAt (kept ++ piece) 0 ≡ ask q after = front-read n (kept ++ piece) (ask q after) a tt in
@@ -143,6 +159,7 @@ module _ {kept piece head : List ℕ} {n : ℕ} (f : Filled kept piece head n) (
         left = join-left kept piece w q after all;
       }
 
+  -- the four answers, by what was read
   pub joins-whole : waits (spotAt kept 0) ≡ true → {q : Request·} {after : ℕ} → r ≡ Ask q after → Joins kept piece head (Whole after)
   joins-whole w {q} {after} g = whole-joins after (completes w (asked q) after (front ∙ ap meaning g))
 
@@ -161,11 +178,13 @@ module _ {kept piece head : List ℕ} {n : ℕ} (f : Filled kept piece head n) (
   pub joins-unknown : r ≡ Unknown· → Joins kept piece head Unknown
   joins-unknown g = unknown-joins (strange-parse (kept ++ piece) (front-read n (kept ++ piece) strange (front ∙ ap meaning g) tt))
 
+  -- nothing is read only where nothing was kept
   none-kept : r ≡ End → length kept ≡ 0
   none-kept g = omega (arith, end-end (take n (kept ++ piece)) 0 (front ∙ ap meaning g), front-length, f .begun)
 
--- where bytes were kept there is something to read
-pub joins-end : (bs : List ℕ) (count : ℕ) {piece head : List ℕ} {n : ℕ} → Filled (keptIn bs count) piece head n → (r : Record) → meaning r ≡ readAt (take (n - 0) head) 0
+-- and where bytes were kept there is something to read
+pub joins-end : (bs : List ℕ) (count : ℕ) {piece head : List ℕ} {n : ℕ} → HeadFilled (keptIn bs count) piece head n
+    → (r : Record) → meaning r ≡ readAt (take (n - 0) head) 0
     → carryBytes ≤ length bs → count ≤ mostKept → (count ≡ 0 → ⊥) → r ≡ End → Joins (keptIn bs count) piece head (Whole 0)
 joins-end bs count f r e long few some g =
     absurd (some (omega (arith, none-kept f r e g, length-take-le count (drop 10 bs) (omega (arith, length-drop 10 bs)))))

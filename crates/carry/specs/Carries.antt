@@ -51,5 +51,5 @@ pub record Halts (o n : ℕ) (r : Brought) : Type 0 where
   pub is : r ≡ cond (eqb n 0 && leb (o + 2) lastOffset) (Stopped o) Unfit
 
 -- one that goes on keeps no whole record, and no mark that is known to be none
-pub record Goes (bs : List ℕ) (o n : ℕ) (r : Brought) : Type 0 where
+pub record GoesOn (bs : List ℕ) (o n : ℕ) (r : Brought) : Type 0 where
   pub is : r ≡ cond (waits (spotAt (keptIn bs n) 0) && leb (o + n) lastOffset) (Going o n) Unfit

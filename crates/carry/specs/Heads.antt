@@ -31,7 +31,7 @@ pub record Joins (kept piece head : List ℕ) (r : Head) : Type 0 where
   pub unknown : r ≡ Unknown → parse (kept ++ piece) ≡ ends (unknownAt 0)
 
 -- the first n bytes of the buffer are the first of the bytes kept with the piece behind them: as many as there are, and as a record can have
-pub record Filled (kept piece head : List ℕ) (n : ℕ) : Type 0 where
+pub record HeadFilled (kept piece head : List ℕ) (n : ℕ) : Type 0 where
   pub long : length head ≡ headBytes
   pub fits : n ≤ headBytes
   pub begun : length kept ≤ n

@@ -7,8 +7,8 @@ ghost use lib.ListN.{length, drop, replicate};
 ghost use Rattle.cells.specs.Decides.{Decides};
 ghost use Rattle.rules.specs.Bytes.{spotAt};
 ghost use Rattle.rules.specs.Carry.{waits, carryBytes, keptRoom};
-ghost use Rattle.carry.specs.Carries.{mostKept, headBytes, keptIn, LaidOut, FormOf, Halts, Goes, Brings, Put};
-ghost use Rattle.carry.specs.Heads.{Lesser, Filled, Joins};
+ghost use Rattle.carry.specs.Carries.{mostKept, headBytes, keptIn, LaidOut, FormOf, Halts, GoesOn, Brings, Put};
+ghost use Rattle.carry.specs.Heads.{Lesser, HeadFilled, Joins};
 use wire::Record;
 
 // Where the number of bytes kept stands, the byte that says whether the stream has stopped, and the first of the bytes kept. The offset is in front.
@@ -96,7 +96,7 @@ fn judge_stopped(offset: u64, count: usize) -> Brought
 // A record that says that the stream goes on: what is kept is no whole record, and no mark that is known to be none.
 fn judge_going(carry: &[u8], offset: u64, count: usize) -> Brought
     requires { ⌜ (carryBytes ≤ length (now carry)) × (count ≤ mostKept) ⌝ }
-    ensures { λ r. ⌜ Goes (now (carry .entry)) offset count r ⌝ }
+    ensures { λ r. ⌜ GoesOn (now (carry .entry)) offset count r ⌝ }
 {
     if u64::MAX - offset < count as u64 {
         return Brought::Unfit;
@@ -149,7 +149,7 @@ fn lesser(a: usize, b: usize) -> usize
 // Puts the bytes kept and the first of the piece into the buffer, as many as a record can have, and gives how many they are.
 fn fill_head(carry: &[u8], count: usize, piece: &[u8], head: &mut [u8]) -> usize
     requires { ⌜ (carryBytes ≤ length (now carry)) × (count ≤ mostKept) × (length (now head) ≡ headBytes) ⌝ }
-    ensures { λ r. ⌜ Filled (keptIn (now (carry .entry)) count) (now (piece .entry)) (now (head .exit)) r ⌝ }
+    ensures { λ r. ⌜ HeadFilled (keptIn (now (carry .entry)) count) (now (piece .entry)) (now (head .exit)) r ⌝ }
 {
     bytes::copy(&carry[KEPT_AT..KEPT_AT + count], head);
     let more = lesser(piece.len(), HEAD_BYTES - count);
@@ -159,7 +159,8 @@ fn fill_head(carry: &[u8], count: usize, piece: &[u8], head: &mut [u8]) -> usize
 
 // The record that the bytes kept begin, put together in the buffer with the piece's first bytes.
 pub fn join(carry: &[u8], count: usize, piece: &[u8], head: &mut [u8]) -> Head
-    requires { ⌜ (carryBytes ≤ length (now carry)) × (count ≤ mostKept) × (waits (spotAt (keptIn (now carry) count) 0) ≡ true) × (length (now head) ≡ headBytes) ⌝ }
+    requires { ⌜ (carryBytes ≤ length (now carry)) × (count ≤ mostKept) × (waits (spotAt (keptIn (now carry) count) 0) ≡ true)
+        × (length (now head) ≡ headBytes) ⌝ }
     ensures { λ r. ⌜ Joins (keptIn (now (carry .entry)) count) (now (piece .entry)) (now (head .exit)) r ⌝ }
 {
     if count == 0 {

@@ -87,14 +87,17 @@ carry-length c h =
 abbrev pub shown : List ℕ → Carry
 shown bs = record { offset = le 8 bs 0; kept = take (getD bs 8 0) (drop 10 bs); stopped = eqb (getD bs 9 0) 1 }
 
+-- a bit read back
 bit-is : (t : Bool) → eqb (bit t) 1 ≡ t
 bit-is true = refl
 bit-is false = refl
 
 module _ (c : Carry) (l : c .offset ≤ lastOffset) (rest : List ℕ) where
+  -- the bytes kept, and the zeros behind them
   tail : List ℕ
   tail = c .kept ++ replicate (keptRoom - length (c .kept)) 0
 
+  -- each part of it is shown by its bytes
   shows-offset : le 8 (carryWritten c ++ rest) 0 ≡ c .offset
   unfolding carryWritten tail
   shows-offset =
@@ -115,6 +118,7 @@ module _ (c : Carry) (l : c .offset ≤ lastOffset) (rest : List ℕ) where
       let z : List ℕ = replicate (keptRoom - length (c .kept)) 0 in
       ap (take (length (c .kept))) (append-assoc (c .kept) z rest) ∙ take-append-seam (c .kept) (z ++ rest)
 
+  -- and so is all of it
   shows : c ≡ shown (carryWritten c ++ rest)
   shows i = record {
     offset = sym shows-offset i;

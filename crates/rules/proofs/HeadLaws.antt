@@ -14,7 +14,8 @@ use lib.Seq.{length-take-le, getD-take, take-append-le, drop-append-add}
 use Rattle.rules.specs.declared.Kind.{Kind}
 use Rattle.rules.specs.declared.Row.{Row}
 use Rattle.rules.specs.Records.{Request}
-use Rattle.rules.specs.Bytes.{row, table, find, Spot, at, unknown, cut, over, within, spotAt, made, Reading, ask, strange, short, end, reading, readAt, whole, unknownAt, cutAt, Parsed, ends, with, onReading, parseFrom, parse}
+use Rattle.rules.specs.Bytes.{row, table, find, Spot, at, unknown, cut, over, within, spotAt, made}
+use Rattle.rules.specs.Bytes.{Reading, ask, strange, short, end, reading, readAt, whole, unknownAt, cutAt, Parsed, ends, with, onReading, parseFrom, parse}
 use Rattle.rules.specs.Carry.{waits, leftBy}
 use Rattle.rules.proofs.TableLaws.{find-known, row-kind, row-bytes}
 use Rattle.rules.proofs.ParseLaws.{Lies, spot-lies, read-goes, read-end, parse-step}
@@ -23,6 +24,7 @@ use Rattle.rules.proofs.FeedCouldLaws.{cut-short, cut-parse}
 
 -- ---- a record that is whole reads the same in its own bytes
 
+-- a row's kind, by the spot
 known-row : (r : Row) (t : Bool) (k : Kind) → cond t cut (at (r .kind)) ≡ at k → r .kind ≡ k
 known-row r true k e = let z : _≡_ {A = ℕ} 0 1 = cc in absurd (omega arith)
 known-row r false k e = cc
@@ -32,13 +34,15 @@ at-row : (s : List ℕ) (k : Kind) → spotAt s 0 ≡ at k → find (getD s 0 0)
 unfolding spotAt
 at-row s k e = pick (leb (length s) 0) (ltb (length s - 0) 2) (find (getD s 0 0) (getD s 1 0) table) refl e
   where
-    pick : (t u : Bool) (f : Option Row) → find (getD s 0 0) (getD s 1 0) table ≡ f → cond t over (cond u cut (within (length s - 0) f)) ≡ at k → f ≡ some (row k)
+    pick : (t u : Bool) (f : Option Row) → find (getD s 0 0) (getD s 1 0) table ≡ f → cond t over (cond u cut (within (length s - 0) f)) ≡ at k
+        → f ≡ some (row k)
     pick true u f g e = let z : _≡_ {A = ℕ} 0 1 = cc in absurd (omega arith)
     pick false true f g e = let z : _≡_ {A = ℕ} 0 1 = cc in absurd (omega arith)
     pick false false none g e = let z : _≡_ {A = ℕ} 0 1 = cc in absurd (omega arith)
     pick false false (some r) g e =
         ap (λ (x : Row). some x) (find-known (getD s 0 0) (getD s 1 0) r g ∙ ap row (known-row r (ltb (length s - 0) (r .bytes)) k e))
 
+-- and with the row and all of its bytes that is the spot
 spot-of-row : (s : List ℕ) (k : Kind) → length s ≡ row k .bytes → find (getD s 0 0) (getD s 1 0) table ≡ some (row k) → spotAt s 0 ≡ at k
 unfolding spotAt
 spot-of-row s k l f =
@@ -55,6 +59,7 @@ module _ (s : List ℕ) (k : Kind) (e : spotAt s 0 ≡ at k) where
   abbrev n : ℕ
   n = row k .bytes
 
+  -- its own bytes: how many, the spot, the request, the record
   own-length : length (take n s) ≡ row k .bytes
   own-length = length-take-le n s (omega (arith, subst (Lies s 0) e (spot-lies s 0)))
 
@@ -70,6 +75,7 @@ module _ (s : List ℕ) (k : Kind) (e : spotAt s 0 ≡ at k) where
   unfolding readAt
   own-read = ap (reading (take n s) 0) own-spot ∙ ap (λ (q : Request). ask q (0 + row k .bytes)) own-made
 
+-- so of whatever was read
 pub own-bytes : (s : List ℕ) (q : Request) (after : ℕ) → readAt s 0 ≡ ask q after → readAt (take after s) 0 ≡ ask q after
 unfolding readAt
 own-bytes s q after e = go (spotAt s 0) refl e
@@ -105,6 +111,7 @@ pending strange = false
 pending short = true
 pending end = true
 
+-- it is what the spot says
 pub read-pending : (s : List ℕ) (r : Reading Request) → readAt s 0 ≡ r → waits (spotAt s 0) ≡ pending r
 unfolding readAt
 read-pending s r e = go (spotAt s 0) ∙ ap pending e
@@ -115,6 +122,7 @@ read-pending s r e = go (spotAt s 0) ∙ ap pending e
     go cut = refl
     go over = refl
 
+-- a record that was read as cut is
 cut-spot : (s : List ℕ) → readAt s 0 ≡ short → spotAt s 0 ≡ cut
 unfolding readAt
 cut-spot s e = go (spotAt s 0) e
@@ -129,6 +137,7 @@ cut-spot s e = go (spotAt s 0) e
 pub short-few : (s : List ℕ) → readAt s 0 ≡ short → length s < 18
 short-few s e = cut-short s (cut-spot s e)
 
+-- nothing else is read then, nor where a mark is none
 pub short-parse : (s : List ℕ) → readAt s 0 ≡ short → parse s ≡ ends (cutAt 0)
 short-parse s e = cut-parse s (cut-spot s e)
 
@@ -162,11 +171,13 @@ module _ (kept piece : List ℕ) (w : waits (spotAt kept 0) ≡ true) (q : Reque
   abbrev rest : List ℕ
   rest = drop (after - length kept) piece
 
+  -- that is what all has behind it
   rest-is : drop after (kept ++ piece) ≡ rest
   rest-is =
       let m : after ≡ length kept + (after - length kept) = omega (arith, past-kept) in
       ap (λ (n : ℕ). drop n (kept ++ piece)) m ∙ drop-append-add kept piece (after - length kept)
 
+  -- all is this request and the rest
   all-is : parse (kept ++ piece) ≡ with q (shift after (parse rest))
   unfolding parse
   all-is =

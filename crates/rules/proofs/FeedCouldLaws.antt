@@ -1,14 +1,14 @@
 -- Which records a feed can leave: exactly those that pass the test of refusal 17. And what a finish says of the whole stream.
 -- Assumes nothing.
-use Prim.Native.Nat.{ℕ, zero, suc, _+_, _-_, _*_, _/_, _%_, _^_, _≤_, _<_}
+use Prim.Native.Nat.{ℕ, zero, suc, _+_, _-_, _*_, _/_, _%_, _≤_, _<_}
 use native.Mathlib.Omega.{arith}
 use native.Mathlib.Nat.{add-zero}
-use borrow.Author.Tests.{le-leb, lt-leb, leb-true, leb-false, ltb-true, ltb-false, lt-ltb, le-ltb, eqb-true, eq-eqb}
-use mathlib.Core.Path.{_≡_, refl, sym, ap, ap₂, _∙_, subst}
-use mathlib.Core.Bool.{Bool, true, false, not, cond, _&&_}
-use mathlib.Core.List.{List, [], _∷_, _++_, append-nil}
+use borrow.Author.Tests.{le-leb, leb-true, leb-false, ltb-true, ltb-false, le-ltb, eqb-true, eq-eqb}
+use mathlib.Core.Path.{_≡_, refl, sym, ap, _∙_, subst}
+use mathlib.Core.Bool.{Bool, true, false, cond, _&&_}
+use mathlib.Core.List.{List, [], _∷_, _++_}
 use mathlib.Core.Option.{Option, none, some}
-use lib.Dec.{eqb, leb, ltb}
+use lib.Dec.{leb, ltb}
 use lib.ListN.{length, getD, drop, length-append, length-drop}
 use Rattle.cells.specs.Cells.{Bytes, le}
 use Rattle.rules.specs.declared.Kind.{Kind}
@@ -20,11 +20,11 @@ use Rattle.rules.specs.Parts.{null}
 use Rattle.rules.specs.State.{Limits, State, emptyAt, Sound}
 use Rattle.rules.specs.Records.{Request, CL}
 use Rattle.rules.specs.Requests.{run, apply}
-use Rattle.rules.specs.Bytes.{row, table, find, Spot, at, unknown, cut, over, within, spotAt, made, Reading, ask, strange, short, end, reading, readAt, End, whole, unknownAt, cutAt, Parsed, onReading, walk, parseFrom, parse, roomFor, encodeAll}
+use Rattle.rules.specs.Bytes.{row, table, find, Spot, at, unknown, cut, over, within, spotAt, Reading, ask, strange, short, end, reading, readAt, End, whole, unknownAt, cutAt, Parsed, onReading, walk, parseFrom, parse, roomFor, encodeAll}
 use Rattle.rules.specs.Refusals.{mostRequestBytes}
 use Rattle.rules.specs.Verdict.{Verdict, refused, done, turnedAway, unless, reads}
 use Rattle.rules.specs.Carry.{Carry, opening, leftBy, lastOffset, waits, even, couldStop, couldWait, couldLeave, carries}
-use Rattle.rules.specs.Feed.{Onward, flowing, onCarry, feedOn, completed, runsOver, feedRows, feed, finishOn, ended, Reached, begins, feeds}
+use Rattle.rules.specs.Feed.{Onward, onCarry, feedOn, completed, runsOver, feedRows, feed, finishOn, ended, Reached, begins, feeds}
 use Rattle.rules.proofs.TableLaws.{find-known}
 use Rattle.rules.proofs.SoundLaws.{empty-sound}
 use Rattle.rules.proofs.ParseLaws.{read-goes, parse-step, spot-drop}
@@ -102,7 +102,7 @@ and-both true true h = (refl, refl)
 and-both true false h = let z : _≡_ {A = ℕ} 0 1 = cc in absurd (omega arith)
 and-both false t h = let z : _≡_ {A = ℕ} 0 1 = cc in absurd (omega arith)
 
-and-true : (a b : Bool) → a ≡ true → b ≡ true → (a && b) ≡ true
+pub and-true : (a b : Bool) → a ≡ true → b ≡ true → (a && b) ≡ true
 and-true a b e f = rw (e, f)
 
 even-true : (n : ℕ) → n % 2 ≡ 0 → even n ≡ true

@@ -3,7 +3,7 @@
 use Prim.Native.Nat.{ℕ, zero, suc, _+_, _-_, _≤_, _<_}
 use native.Mathlib.Omega.{arith}
 use native.Mathlib.Nat.{add-zero, add-assoc}
-use borrow.Author.Tests.{le-leb, lt-leb, leb-true, leb-false, ltb-false, le-ltb}
+use borrow.Author.Tests.{lt-leb, leb-true, leb-false, ltb-false, le-ltb}
 use mathlib.Core.Path.{_≡_, refl, sym, ap, ap₂, _∙_, subst}
 use mathlib.Core.Bool.{Bool, true, false, cond}
 use mathlib.Core.List.{List, [], _∷_, _++_, append-assoc, append-nil}
@@ -17,11 +17,11 @@ use Rattle.rules.specs.declared.Kind.{Kind}
 use Rattle.rules.specs.declared.Kind.the-variants.{Get, Peek, Remove, Insert, Evict, Clear}
 use Rattle.rules.specs.declared.Row.{Row}
 use Rattle.rules.specs.State.{State}
-use Rattle.rules.specs.Records.{Request, GT, PK, RM, IN, Reply, Outcome, tellFirst}
+use Rattle.rules.specs.Records.{Request, GT, PK, RM, IN, Reply}
 use Rattle.rules.specs.Requests.{run}
 use Rattle.rules.specs.Bytes.{row, table, find, Spot, at, unknown, cut, over, within, spotAt, made, Reading, ask, strange, short, end, reading, readAt, End, whole, unknownAt, cutAt, Parsed, with, onReading, parseFrom, parse}
-use Rattle.rules.specs.Carry.{Carry, leftBy, couldLeave}
-use Rattle.rules.specs.Feed.{Flow, still, flow, flowing, onCarry, feedOn, afterReplies, andThen, feedAll, glued}
+use Rattle.rules.specs.Carry.{Carry, leftBy}
+use Rattle.rules.specs.Feed.{flow, flowing, onCarry, feedOn, afterReplies, andThen, feedAll, glued}
 use Rattle.rules.proofs.ParseLaws.{Lies, spot-lies, read-goes, parse-step, spot-drop, made-drop}
 use Rattle.rules.proofs.LedgerLaws.{run-append}
 
@@ -30,7 +30,7 @@ use Rattle.rules.proofs.LedgerLaws.{run-append}
 le-front : (w : ℕ) (a b : List ℕ) (i : ℕ) → i + w ≤ length a → le w (a ++ b) i ≡ le w a i
 le-front w a b i h = le-ext w (a ++ b) a i (λ j p q. List·getD-append a b 0 j (omega arith))
 
-made-front : (k : Kind) (a b : List ℕ) (i : ℕ) → i + row k .bytes ≤ length a → made (a ++ b) i k ≡ made a i k
+pub made-front : (k : Kind) (a b : List ℕ) (i : ℕ) → i + row k .bytes ≤ length a → made (a ++ b) i k ≡ made a i k
 made-front Get a b i h = ap GT (le-front 8 a b (i + 2) (omega arith))
 made-front Peek a b i h = ap PK (le-front 8 a b (i + 2) (omega arith))
 made-front Remove a b i h = ap RM (le-front 8 a b (i + 2) (omega arith))
@@ -75,13 +75,13 @@ spot-front a b i p e s = pick (leb (length a) i) refl (ltb (length a - i) 2) ref
         )
         (within-more (length a - i) (length (a ++ b) - i) f p (omega arith) s e)
 
-abbrev Firm : Reading Request → Type 0
+abbrev pub Firm : Reading Request → Type 0
 Firm (ask q after) = Unit {0}
 Firm strange = Unit {0}
 Firm short = ⊥
 Firm end = ⊥
 
-read-front : (a b : List ℕ) (i : ℕ) (r : Reading Request) → readAt a i ≡ r → Firm r → readAt (a ++ b) i ≡ r
+pub read-front : (a b : List ℕ) (i : ℕ) (r : Reading Request) → readAt a i ≡ r → Firm r → readAt (a ++ b) i ≡ r
 unfolding readAt
 read-front a b i r e s = go (spotAt a i) refl e
   where
@@ -210,7 +210,7 @@ module _ (n : ℕ) (s : List ℕ) where
 
 -- ---- what is left, seen from further on
 
-left-shift : (o d : ℕ) (s x : List ℕ) (e : End) → drop d s ≡ x → d ≤ length s → leftBy o s (shiftEnd d e) ≡ leftBy (o + d) x e
+pub left-shift : (o d : ℕ) (s x : List ℕ) (e : End) → drop d s ≡ x → d ≤ length s → leftBy o s (shiftEnd d e) ≡ leftBy (o + d) x e
 left-shift o d s x whole h l = ap (λ (n : ℕ). record { offset = n; kept = []; stopped = false }) (omega (arith, ap length h, length-drop d s))
 left-shift o d s x (cutAt i) h l =
     ap₂ (λ (n : ℕ) (k : List ℕ). record { offset = n; kept = k; stopped = false }) (omega arith) (sym (drop-drop i d s) ∙ ap (drop i) h)

@@ -21,7 +21,7 @@ pub every-left : {A : Type 0} (P : A → Type 0) (a b : List A) → Every P (a +
 every-left P [] b h = tt
 every-left P (x ∷ a) b h = (h .0, every-left P a b (h .1))
 
-pub every-right : (P : ℕ → Type 0) (a b : List ℕ) → Every P (a ++ b) → Every P b
+pub every-right : {A : Type 0} (P : A → Type 0) (a b : List A) → Every P (a ++ b) → Every P b
 every-right P [] b h = h
 every-right P (x ∷ a) b h = every-right P a b (h .1)
 

@@ -41,7 +41,7 @@ even-row Insert = (refl, omega arith)
 even-row Evict = (refl, omega arith)
 even-row Clear = (refl, omega arith)
 
-abbrev Ends : List ℕ → ℕ → End → Type 0
+abbrev pub Ends : List ℕ → ℕ → End → Type 0
 Ends s i whole = length s % 2 ≡ i % 2
 Ends s i (cutAt c) = (c % 2 ≡ i % 2) × (c ≤ length s) × (spotAt s c ≡ cut)
 Ends s i (unknownAt c) = (c % 2 ≡ i % 2) × (c + 2 ≤ length s)
@@ -90,6 +90,9 @@ module _ (s : List ℕ) where
       subst (λ (p : Parsed Request). Ends s i (p .end)) (sym (parse-step s i)) (ends-step i h (λ after l k. absurd (omega arith)) (readAt s i) refl (spots s i))
   ends-at (suc m) i h g =
       subst (λ (p : Parsed Request). Ends s i (p .end)) (sym (parse-step s i)) (ends-step i h (λ after l k. ends-at m after k (omega arith)) (readAt s i) refl (spots s i))
+
+  pub parse-ends-from : (i : ℕ) → i ≤ length s → Ends s i (parseFrom s i .end)
+  parse-ends-from i h = ends-at (length s) i h (omega arith)
 
   pub parse-ends : Ends s 0 (parse s .end)
   unfolding parse

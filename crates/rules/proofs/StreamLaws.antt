@@ -6,18 +6,19 @@ use native.Mathlib.Nat.{add-zero}
 use mathlib.Core.Path.{_≡_, refl, sym, ap, ap₂, _∙_, subst}
 use mathlib.Core.Bool.{Bool, true, false, cond}
 use mathlib.Core.List.{List, [], _∷_, _++_, append-nil}
-use lib.ListN.{length, length-append}
+use lib.ListN.{length, drop, length-append, length-drop}
 use Rattle.rules.specs.State.{State}
 use Rattle.rules.specs.Records.{Request}
 use Rattle.rules.specs.Requests.{run}
-use Rattle.rules.specs.Bytes.{Spot, at, unknown, cut, over, spotAt, Reading, ask, strange, short, end, reading, readAt, whole, cutAt, Parsed, ends, onReading, walk, parseFrom, parse}
+use Rattle.rules.specs.Bytes.{Spot, at, unknown, cut, over, spotAt, Reading, ask, strange, short, end, reading, readAt, End, whole, unknownAt, cutAt, Parsed, ends, onReading, walk, parseFrom, parse}
 use Rattle.rules.specs.Bytes.{roomOf, roomFor}
 use Rattle.rules.specs.Carry.{Carry, waits, couldLeave, carries}
 use Rattle.rules.specs.Feed.{still, flow, flowing, onCarry, feedOn, feedAll, glued, completed, completedOf}
 use Rattle.rules.proofs.TableLaws.{row-bytes, room-made}
-use Rattle.rules.proofs.ParseLaws.{read-goes, parse-step}
+use Rattle.rules.proofs.ParseLaws.{read-goes, parse-step, spot-drop}
+use Rattle.rules.proofs.PartsLaws.{total-append}
 use Rattle.rules.proofs.FeedLaws.{feed-glued}
-use Rattle.rules.proofs.FeedCouldLaws.{could-wait, over-nil, cut-parse}
+use Rattle.rules.proofs.FeedCouldLaws.{Ends, parse-ends-from, cut-short, could-wait, over-nil, cut-parse}
 use Rattle.rules.proofs.CarryLaws.{could-few}
 
 -- ---- a feed of nothing
@@ -113,3 +114,26 @@ module _ (s : List ℕ) where
 pub feed-room : (c : Carry) (piece : List ℕ) → couldLeave c ≡ true → roomFor (completed c piece) ≤ 18 * (length piece + 17)
 unfolding completed parse
 feed-room c piece h = omega (arith, parse-room (c .kept ++ piece) 0 (omega arith), length-append (c .kept) piece, could-few c h)
+
+pub room-append : (a b : List Request) → roomFor (a ++ b) ≡ roomFor a + roomFor b
+unfolding roomFor
+room-append a b = total-append roomOf a b
+
+-- ---- where reading ends
+
+-- within the bytes, and a record that is cut has fewer than the longest
+abbrev pub EndsIn : List ℕ → End → Type 0
+EndsIn s whole = Unit {0}
+EndsIn s (unknownAt c) = c ≤ length s
+EndsIn s (cutAt c) = (c ≤ length s) × (length s ≤ c + 17)
+
+ends-in : (s : List ℕ) (i : ℕ) (e : End) → Ends s i e → EndsIn s e
+ends-in s i whole h = tt
+ends-in s i (unknownAt c) h = let b = h .1 in omega arith
+ends-in s i (cutAt c) h =
+    let b = h .1 in
+    let e : spotAt (drop c s) 0 ≡ cut = spot-drop c s 0 ∙ ap (spotAt s) (add-zero c) ∙ h .2 in
+    (b, omega (arith, cut-short (drop c s) e, length-drop c s))
+
+pub parse-within : (s : List ℕ) (i : ℕ) → i ≤ length s → EndsIn s (parseFrom s i .end)
+parse-within s i h = ends-in s i (parseFrom s i .end) (parse-ends-from s i h)

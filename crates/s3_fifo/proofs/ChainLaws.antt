@@ -2,7 +2,7 @@
 -- Assumes nothing.
 use mathlib.Core.Path.{_≡_, refl, sym, ap, ap₂, _∙_, subst}
 use mathlib.Core.Bool.{Bool, true, false, cond}
-use mathlib.Core.List.{List, [], _∷_, _++_}
+use mathlib.Core.List.{List, [], _∷_, _++_, append-nil}
 use Prim.Native.Nat.{ℕ, _≤_}
 use native.Mathlib.Omega.{arith}
 use lib.Dec.{ltb}
@@ -39,12 +39,12 @@ use Rattle.store.specs.Holds.{Holds}
 use Rattle.s3_fifo.specs.declared.Creation.the-variants.{Made}
 use Rattle.s3_fifo.specs.declared.Ran.the-variants.{Done}
 use Rattle.s3_fifo.specs.declared.Fed.{Fed}
-use Rattle.s3_fifo.specs.Feeds.{fedSays, FollowsFeed, FedAs}
+use Rattle.s3_fifo.specs.Feeds.{fedSays, repliesIn, carriedOut, FollowsFeed, FedAs}
 use Rattle.s3_fifo.specs.Streams.{Goes}
-use Rattle.s3_fifo.specs.Calls.{Said, gave, turned, ranSays, ReadsAs, Follows, Created, Called}
-use Rattle.s3_fifo.specs.Chains.{limitsMade, Chain, start, accepted, refused, fed, unfed, Grown, Kept, FullWithin}
+use Rattle.s3_fifo.specs.Calls.{Said, gave, halted, turned, ranSays, ReadsAs, Follows, Created, Called}
+use Rattle.s3_fifo.specs.Chains.{limitsMade, Chain, start, accepted, refused, fed, Grown, Kept, FullWithin}
 use Rattle.s3_fifo.proofs.OnceLaws.{gave-not, goes-not, reads-once}
-use Rattle.s3_fifo.proofs.FedLaws.{took-goes, goes-on, goes-lent}
+use Rattle.s3_fifo.proofs.FedLaws.{goes-on, goes-lent}
 
 -- ---- from an answer to the verdict's last word
 
@@ -201,25 +201,43 @@ fed-narrow {c} {q} k x b d = go (k .stopped)
     go true = tt
     go false = parse-sized (k .kept ++ q) (bytes-append (k .kept) q (kept-bytes x b) d)
 
-grow-fed : {s c q p s′ c′ p′ : List ℕ} (r : Fed) (n : ℕ) {σ₀ : State} {rs : List Request} {bs : List ℕ} → Grown s σ₀ rs bs → Bytes c → Bytes q
-    → (f : FedAs s c q p r s′ c′ p′) → Goes r n → Grown s′ σ₀ (rs ++ completedOf (f .carry) q) (bs ++ take n p′)
-grow-fed {s} {c} {q} {p} {s′} {c′} {p′} r n {σ₀} {rs} {bs} g b d f t =
-    let l = goes-lent r n f t in
-    let k = l .carry in
-    let σ : State = run σ₀ rs .state in
-    let x : CarryAs c k = subst (ReadsCarry c) (l .carry-is) (f .carry-is) in
-    let w = goes-on r n (g .holds) (g .long) x f t .went in
-    let e : feedOn σ k q ≡ flow (feedOn σ k q .carry) (run σ (completedOf (carries k) q)) = feed-runs σ k q in
-    subst (λ (y : Carried). Grown s′ σ₀ (rs ++ completedOf y q) (bs ++ take n p′)) (sym (l .carry-is))
-    (grow (completedOf (carries k) q) g (fed-narrow k x b d)
-    (subst (Holds s′) (ap (λ (y : Flow). y .state) e) (w .holds))
-    (w .told ∙ ap (λ (y : Flow). encodeAll (y .replies)) e)
-    (let h = g .long in omega (arith, w .same-length)))
+module _ {s c q p s′ c′ p′ : List ℕ} {r : Fed} (f : FedAs s c q p r s′ c′ p′) {σ₀ : State} {rs : List Request} {bs : List ℕ} (g : Grown s σ₀ rs bs)
+    (b : Bytes c) (d : Bytes q) where
+  -- the requests that it completed
+  grow-fed : Goes (fedSays r) → Grown s′ σ₀ (rs ++ completedOf (f .carry) q) (bs ++ take (repliesIn (fedSays r)) p′)
+  grow-fed t =
+      let l = goes-lent r f t in
+      let k = l .carry in
+      let σ : State = run σ₀ rs .state in
+      let n : ℕ = repliesIn (fedSays r) in
+      let x : CarryAs c k = subst (ReadsCarry c) (l .carry-is) (f .carry-is) in
+      let w = goes-on r (g .holds) (g .long) x f t .went in
+      let e : feedOn σ k q ≡ flow (feedOn σ k q .carry) (run σ (completedOf (carries k) q)) = feed-runs σ k q in
+      subst (λ (y : Carried). Grown s′ σ₀ (rs ++ completedOf y q) (bs ++ take n p′)) (sym (l .carry-is))
+      (grow (completedOf (carries k) q) g (fed-narrow k x b d)
+      (subst (Holds s′) (ap (λ (y : Flow). y .state) e) (w .holds))
+      (w .told ∙ ap (λ (y : Flow). encodeAll (y .replies)) e)
+      (let h = g .long in omega (arith, w .same-length)))
+
+  -- none: it was turned away
+  grow-none : s′ ≡ s → Grown s′ σ₀ (rs ++ []) (bs ++ [])
+  grow-none e =
+      subst (λ (l : List Request). Grown s′ σ₀ l (bs ++ [])) (sym (append-nil rs))
+      (subst (λ (l : List ℕ). Grown s′ σ₀ rs l) (sym (append-nil bs)) (subst (λ (x : List ℕ). Grown x σ₀ rs bs) (sym e) g))
 
 -- a feed that was turned away leaves the store as it was
 unfed-same : (v : Verdict Onward) (n d : ℕ) (a : Said) (s s′ c c′ p p′ : List ℕ) → FollowsFeed v a s s′ c c′ p p′ → a ≡ turned n d → s′ ≡ s
 unfed-same (turnedBy m e) n d a s s′ c c′ p p′ h r = h .1
 unfed-same (done w bs) n d a s s′ c c′ p p′ h r = absurd (goes-not (w .carry) (sym (h .0) ∙ r))
+
+grow-either : {s c q p s′ c′ p′ : List ℕ} {r : Fed} (f : FedAs s c q p r s′ c′ p′) {σ₀ : State} {rs : List Request} {bs : List ℕ} → Grown s σ₀ rs bs → Bytes c
+    → Bytes q → (a : Said) → fedSays r ≡ a → Grown s′ σ₀ (rs ++ carriedOut a (completedOf (f .carry) q)) (bs ++ take (repliesIn a) p′)
+grow-either {q = q} {p′ = p′} f {σ₀} {rs} {bs} g b d (gave n) e =
+    subst (λ (a : Said). Grown _ σ₀ (rs ++ completedOf (f .carry) q) (bs ++ take (repliesIn a) p′)) e (grow-fed f g b d (subst Goes (sym e) tt))
+grow-either {q = q} {p′ = p′} f {σ₀} {rs} {bs} g b d (halted n i) e =
+    subst (λ (a : Said). Grown _ σ₀ (rs ++ completedOf (f .carry) q) (bs ++ take (repliesIn a) p′)) e (grow-fed f g b d (subst Goes (sym e) tt))
+grow-either {s} {c} {q} {p} {s′} {c′} {p′} {r} f g b d (turned n i) e =
+    grow-none f g b d (unfed-same (feed (f .store) (f .carry) q (length p)) n i (fedSays r) s s′ c c′ p p′ (f .leaves) e)
 
 pub grown : {s : List ℕ} {σ₀ : State} {rs : List Request} {bs : List ℕ} → Chain s σ₀ rs bs → Grown s σ₀ rs bs
 unfolding run encodeAll
@@ -228,10 +246,7 @@ grown (start {settings = settings} c) =
 grown (accepted h b c) = grow-called (grown h) b c
 grown (refused {s = s} {q = q} {p = p} {s′ = s′} {p′ = p′} {r = r} {σ₀ = σ₀} {rs = rs} {bs = bs} n d h c e) =
     subst (λ (x : List ℕ). Grown x σ₀ rs bs) (sym (refused-same (call (c .store) q (length p)) n d (ranSays r) s s′ p p′ (c .leaves) e)) (grown h)
-grown (fed {r = r} n h b d f t) = grow-fed r n (grown h) b d f (took-goes r n t)
-grown (unfed {s = s} {c = c} {q = q} {p = p} {s′ = s′} {c′ = c′} {p′ = p′} {r = r} {σ₀ = σ₀} {rs = rs} {bs = bs} n d h f e) =
-    subst (λ (x : List ℕ). Grown x σ₀ rs bs)
-    (sym (unfed-same (feed (f .store) (f .carry) q (length p)) n d (fedSays r) s s′ c c′ p p′ (f .leaves) e)) (grown h)
+grown (fed {r = r} h b d f) = grow-either f (grown h) b d (fedSays r) refl
 
 pub chain-keeps : {s : List ℕ} {σ₀ : State} {rs : List Request} {bs : List ℕ} → Chain s σ₀ rs bs → Kept s σ₀ rs bs
 chain-keeps {s} {σ₀} {rs} {bs} c =

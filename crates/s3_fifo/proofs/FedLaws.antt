@@ -21,36 +21,18 @@ use Rattle.rules.proofs.FeedCouldLaws.{feed-could}
 use Rattle.rules.proofs.CarriedLaws.{carry-written}
 use Rattle.store.specs.Holds.{Holds}
 use Rattle.s3_fifo.specs.declared.Fed.{Fed}
-use Rattle.s3_fifo.specs.declared.Fed.the-variants.{Done, Stopped, Refused}
 use Rattle.s3_fifo.specs.Calls.{Said, gave, halted, turned, ReadsAs}
-use Rattle.s3_fifo.specs.Feeds.{fedSays, saidWith, FollowsFeed, FedAs}
-use Rattle.s3_fifo.specs.Chains.{Took}
+use Rattle.s3_fifo.specs.Feeds.{fedSays, repliesIn, saidWith, FollowsFeed, FedAs}
 use Rattle.s3_fifo.specs.Streams.{Goes}
 use Rattle.s3_fifo.proofs.OnceLaws.{fed-on}
 
--- what an answer that goes on says: so many reply bytes, or the 9 of a stream that has stopped
-abbrev GoesSaid : Said → ℕ → Type 0
-GoesSaid (gave n) m = n ≡ m
-GoesSaid (halted n d) m = n ≡ m
-GoesSaid (turned n d) m = (n ≡ 9) × (m ≡ 0)
-
-goes-said : (r : Fed) (n : ℕ) → Goes r n → GoesSaid (fedSays r) n
-goes-said (Done m) n g = g
-goes-said (Stopped m d) n g = g
-goes-said (Refused t) n g = g
-
-pub took-goes : (r : Fed) (n : ℕ) → Took r n → Goes r n
-took-goes (Done m) n g = g
-took-goes (Stopped m d) n g = g
-took-goes (Refused t) n g = absurd g
-
 -- an answer with so many reply bytes, by what is carried on
-said-count : (c : Carry) (a : Said) (m n : ℕ) → GoesSaid a n → a ≡ saidWith c m → n ≡ m
-said-count c a m n g e = go (c .stopped) (subst (λ (x : Said). GoesSaid x n) e g)
+said-count : (c : Carry) (m : ℕ) → repliesIn (saidWith c m) ≡ m
+said-count c m = go (c .stopped)
   where
-    go : (t : Bool) → GoesSaid (cond t (halted m (c .offset)) (gave m)) n → n ≡ m
-    go true h = sym h
-    go false h = sym h
+    go : (t : Bool) → repliesIn (cond t (halted m (c .offset)) (gave m)) ≡ m
+    go true = refl
+    go false = refl
 
 -- ---- a feed on a store that holds σ, of a stream that carries k
 
@@ -61,22 +43,22 @@ pub record Went (s c : List ℕ) (w : Flow) (n : ℕ) (s′ c′ p′ : List ℕ
   pub carried : c′ ≡ carryWritten (w .carry) ++ drop carryBytes c
   pub same-length : length s′ ≡ length s
 
-module _ (s c q p s′ c′ p′ : List ℕ) (a : Said) (n : ℕ) (σ : State) (k : Carry) (g : GoesSaid a n) (h : Holds s σ) (x : CarryAs c k) where
+module _ (s c q p s′ c′ p′ : List ℕ) (a : Said) (σ : State) (k : Carry) (g : Goes a) (h : Holds s σ) (x : CarryAs c k) where
   abbrev Leaves : Verdict Onward → Type 0
   Leaves v = FollowsFeed v a s s′ c c′ p p′
 
   -- no row of another number applied
   passes : (t : Bool) (why : Turned) (v : Verdict Onward) → (numberOf why ≡ 9 → ⊥) → Leaves (cond t (turnedAway why) v) → (t ≡ false) × Leaves v
-  passes true why v w l = absurd (w (subst (λ (x : Said). GoesSaid x n) (l .0) g .0))
+  passes true why v w l = absurd (w (subst Goes (l .0) g))
   passes false why v w l = (refl, l)
 
   -- the stream had stopped before: nothing has changed
-  stays : k .stopped ≡ true → Leaves (turnedAway (BadRecord (k .offset))) → Went s c (feedOn σ k q) n s′ c′ p′
+  stays : k .stopped ≡ true → Leaves (turnedAway (BadRecord (k .offset))) → Went s c (feedOn σ k q) (repliesIn a) s′ c′ p′
   unfolding feedOn encodeAll
   stays e l =
       let w : feedOn σ k q ≡ still σ k = ap (onCarry σ k q) e in
-      let m : n ≡ 0 = subst (λ (x : Said). GoesSaid x n) (l .0) g .1 in
-      subst (λ (f : Flow). Went s c f n s′ c′ p′) (sym w)
+      let m : repliesIn a ≡ 0 = ap repliesIn (l .0) in
+      subst (λ (f : Flow). Went s c f (repliesIn a) s′ c′ p′) (sym w)
       (record {
         holds = subst (λ (y : List ℕ). Holds y σ) (sym (l .1)) h;
         told = ap (λ (i : ℕ). take i p′) m;
@@ -84,17 +66,17 @@ module _ (s c q p s′ c′ p′ : List ℕ) (a : Said) (n : ℕ) (σ : State) (
         same-length = ap length (l .1);
       })
 
-  moves : Leaves (fed (feedOn σ k q)) → Went s c (feedOn σ k q) n s′ c′ p′
+  moves : Leaves (fed (feedOn σ k q)) → Went s c (feedOn σ k q) (repliesIn a) s′ c′ p′
   moves l =
       let bs : List ℕ = encodeAll (feedOn σ k q .replies) in
       record {
         holds = l .1 .holds;
-        told = ap₂ take (said-count (feedOn σ k q .carry) a (length bs) n g (l .0)) (l .3) ∙ take-at bs (drop (length bs) p) (length bs) refl;
+        told = ap₂ take (ap repliesIn (l .0) ∙ said-count (feedOn σ k q .carry) (length bs)) (l .3) ∙ take-at bs (drop (length bs) p) (length bs) refl;
         carried = l .2;
         same-length = l .1 .same-length;
       }
 
-  went-on : Leaves (feed (reads σ) (carries k) q (length p)) → (runsOver k (length q) ≡ false) × Went s c (feedOn σ k q) n s′ c′ p′
+  went-on : Leaves (feed (reads σ) (carries k) q (length p)) → (runsOver k (length q) ≡ false) × Went s c (feedOn σ k q) (repliesIn a) s′ c′ p′
   unfolding feed
   went-on l =
       let p1 = passes (runsOver k (length q)) BadCarry _ (λ e. omega arith) l in
@@ -104,12 +86,12 @@ module _ (s c q p s′ c′ p′ : List ℕ) (a : Said) (n : ℕ) (σ : State) (
       rest : Verdict Onward
       rest = cond (ltb (length p) (roomFor (completed k q))) (turnedAway (NoRoom (roomFor (completed k q)))) (fed (feedOn σ k q))
 
-      pick : (t : Bool) → k .stopped ≡ t → Leaves (cond t (turnedAway (BadRecord (k .offset))) rest) → Went s c (feedOn σ k q) n s′ c′ p′
+      pick : (t : Bool) → k .stopped ≡ t → Leaves (cond t (turnedAway (BadRecord (k .offset))) rest) → Went s c (feedOn σ k q) (repliesIn a) s′ c′ p′
       pick true e l = stays e l
       pick false e l = moves (passes (ltb (length p) (roomFor (completed k q))) (NoRoom (roomFor (completed k q))) (fed (feedOn σ k q)) (λ e. omega arith) l .1)
 
   -- what is carried on could be left
-  next-carry : runsOver k (length q) ≡ false → Went s c (feedOn σ k q) n s′ c′ p′ → CarryAs c′ (feedOn σ k q .carry)
+  next-carry : runsOver k (length q) ≡ false → Went s c (feedOn σ k q) (repliesIn a) s′ c′ p′ → CarryAs c′ (feedOn σ k q .carry)
   next-carry f w = carry-written (drop carryBytes c) (feedOn σ k q .carry) (w .carried) (feed-could σ k q (x .could) f)
 
 -- the same of a feed whose store holds σ and whose record is k
@@ -117,30 +99,30 @@ pub record Onwards (s c : List ℕ) (σ : State) (k : Carry) (q : List ℕ) (n :
   pub went : Went s c (feedOn σ k q) n s′ c′ p′
   pub next : CarryAs c′ (feedOn σ k q .carry)
 
-pub goes-on : {s c q p s′ c′ p′ : List ℕ} (r : Fed) (n : ℕ) {σ : State} {k : Carry} → Holds s σ → storeBytes ≤ length s → CarryAs c k → FedAs s c q p r s′ c′ p′
-    → Goes r n → Onwards s c σ k q n s′ c′ p′
-goes-on {s} {c} {q} {p} {s′} {c′} {p′} r n {σ} {k} h b x f g =
-    let w = went-on s c q p s′ c′ p′ (fedSays r) n σ k (goes-said r n g) h x (fed-on (reads σ) (carries k) (b, h) x f) in
-    record { went = w .1; next = next-carry s c q p s′ c′ p′ (fedSays r) n σ k (goes-said r n g) h x (w .0) (w .1) }
+pub goes-on : {s c q p s′ c′ p′ : List ℕ} (r : Fed) {σ : State} {k : Carry} → Holds s σ → storeBytes ≤ length s → CarryAs c k → FedAs s c q p r s′ c′ p′
+    → Goes (fedSays r) → Onwards s c σ k q (repliesIn (fedSays r)) s′ c′ p′
+goes-on {s} {c} {q} {p} {s′} {c′} {p′} r {σ} {k} h b x f g =
+    let w = went-on s c q p s′ c′ p′ (fedSays r) σ k g h x (fed-on (reads σ) (carries k) (b, h) x f) in
+    record { went = w .1; next = next-carry s c q p s′ c′ p′ (fedSays r) σ k g h x (w .0) (w .1) }
 
 -- ---- a feed that goes on was lent a sound store and a record that a feed could have left
 
-pub record Lent (s c : List ℕ) (x : Reads) (y : Carried) : Type 0 where
+pub record Lent (x : Reads) (y : Carried) : Type 0 where
   pub state : State
   pub carry : Carry
   pub store-is : x ≡ reads state
   pub carry-is : y ≡ carries carry
 
 -- another refusal does not go on
-away : (why : Turned) {a : Said} {n : ℕ} → (numberOf why ≡ 9 → ⊥) → GoesSaid a n → a ≡ turned (numberOf why) (detailOf why) → ⊥
-away why {n = n} w g e = w (subst (λ (x : Said). GoesSaid x n) e g .0)
+away : (why : Turned) (a : Said) → (numberOf why ≡ 9 → ⊥) → Goes a → a ≡ turned (numberOf why) (detailOf why) → ⊥
+away why a w g e = w (subst Goes e g)
 
-lent : (s c q p s′ c′ p′ : List ℕ) (a : Said) (n : ℕ) → GoesSaid a n → (x : Reads) (y : Carried) → FollowsFeed (feed x y q (length p)) a s s′ c c′ p p′ → Lent s c x y
+lent : (s c q p s′ c′ p′ : List ℕ) (a : Said) → Goes a → (x : Reads) (y : Carried) → FollowsFeed (feed x y q (length p)) a s s′ c c′ p p′ → Lent x y
 unfolding feed
-lent s c q p s′ c′ p′ a n g short y l = absurd (away ShortStore (λ e. omega arith) g (l .0))
-lent s c q p s′ c′ p′ a n g damaged y l = absurd (away DamagedStore (λ e. omega arith) g (l .0))
-lent s c q p s′ c′ p′ a n g (reads σ) unfit l = absurd (away BadCarry (λ e. omega arith) g (l .0))
-lent s c q p s′ c′ p′ a n g (reads σ) (carries k) l = record { state = σ; carry = k; store-is = refl; carry-is = refl }
+lent s c q p s′ c′ p′ a g short y l = absurd (away ShortStore a (λ e. omega arith) g (l .0))
+lent s c q p s′ c′ p′ a g damaged y l = absurd (away DamagedStore a (λ e. omega arith) g (l .0))
+lent s c q p s′ c′ p′ a g (reads σ) unfit l = absurd (away BadCarry a (λ e. omega arith) g (l .0))
+lent s c q p s′ c′ p′ a g (reads σ) (carries k) l = record { state = σ; carry = k; store-is = refl; carry-is = refl }
 
-pub goes-lent : {s c q p s′ c′ p′ : List ℕ} (r : Fed) (n : ℕ) (f : FedAs s c q p r s′ c′ p′) → Goes r n → Lent s c (f .store) (f .carry)
-goes-lent {s} {c} {q} {p} {s′} {c′} {p′} r n f g = lent s c q p s′ c′ p′ (fedSays r) n (goes-said r n g) (f .store) (f .carry) (f .leaves)
+pub goes-lent : {s c q p s′ c′ p′ : List ℕ} (r : Fed) (f : FedAs s c q p r s′ c′ p′) → Goes (fedSays r) → Lent (f .store) (f .carry)
+goes-lent {s} {c} {q} {p} {s′} {c′} {p′} r f g = lent s c q p s′ c′ p′ (fedSays r) g (f .store) (f .carry) (f .leaves)

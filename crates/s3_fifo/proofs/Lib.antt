@@ -1,6 +1,7 @@
 pub mod CreateLaws
 pub mod RunLaws
 pub mod CallLaws
+pub mod FeedLaws
 pub mod OnceLaws
 pub mod FedLaws
 pub mod ChainLaws

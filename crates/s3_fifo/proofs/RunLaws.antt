@@ -9,9 +9,14 @@ use lib.ListN.{length, take, drop, length-append, take-append-drop}
 use Rattle.cells.specs.Cells.{Bytes}
 use Rattle.nodes.specs.Nodes.{Rest, cols}
 use Rattle.nodes.specs.declared.Shape.{Shape}
-use Rattle.rules.specs.Records.{Request, Reply, ES, EM, AllPeeks}
-use Rattle.rules.specs.Bytes.{encode, encodeAll, Reading, ask, readAt, Parsed, onReading, parseFrom}
-use Rattle.rules.proofs.RoomLaws.{encode-append}
+use Rattle.rules.specs.State.{State}
+use Rattle.rules.specs.Records.{Request, Reply, ES, EM, Peeks, AllPeeks, Outcome, tellFirst}
+use Rattle.rules.specs.Requests.{run}
+use Rattle.rules.specs.Bytes.{roomFor, encode, encodeAll, Reading, ask, readAt, Parsed, onReading, parseFrom}
+use Rattle.rules.proofs.RoomLaws.{encode-append, run-size}
+use Rattle.rules.proofs.LedgerLaws.{run-append}
+use Rattle.rules.proofs.StreamLaws.{room-append}
+use Rattle.cells.proofs.MembersLaws.{every-left, every-right}
 use Rattle.rules.proofs.ParseLaws.{parse-step, parse-sized-from, read-goes}
 use Rattle.rules.specs.declared.GuestBlock.{GuestBlock}
 use Rattle.rules.specs.declared.PhysicalBlock.{PhysicalBlock}
@@ -21,7 +26,7 @@ use Rattle.wire.specs.declared.Record.{Record}
 use Rattle.wire.specs.declared.Record.the-variants.{Ask, Unknown, Cut, End as Over}
 use Rattle.wire.specs.Wire.{asked, told, meaning, splice, Wrote}
 use Rattle.wire.specs.CarriedOut.{HasRoom}
-use Rattle.wire.proofs.SpliceLaws.{wrote-wrote}
+use Rattle.wire.proofs.SpliceLaws.{wrote-wrote, wrote-length}
 use Rattle.wire.proofs.ProgressLaws.{Progress, progress-start, progress-fits, progress-sound, progress-next, progress-end}
 use Rattle.evict.specs.declared.Pushed.{Pushed}
 use Rattle.evict.specs.declared.Pushed.the-variants.{Nothing, FromSmall, FromMain}
@@ -37,7 +42,7 @@ encode-one : (r : Reply) → encodeAll (r ∷ []) ≡ encode r
 unfolding encodeAll
 encode-one r = append-nil (encode r)
 
-splice-none : (p : List ℕ) (i : ℕ) → i ≤ length p → p ≡ splice p i []
+pub splice-none : (p : List ℕ) (i : ℕ) → i ≤ length p → p ≡ splice p i []
 unfolding splice
 splice-none p i h = sym (ap₂ (λ (a : List ℕ) (n : ℕ). a ++ drop n p) (append-nil (take i p)) (add-zero i) ∙ take-append-drop i p)
 
@@ -88,16 +93,18 @@ pub record Midway (z : Shape) (s₀ s q : List ℕ) (at₀ : ℕ) (p₀ p : List
   pub same : length s ≡ length s₀
   -- where there are only peeks to do: none of them has changed a byte, and only peeks are left
   pub untouched : AllPeeks (parseFrom q at₀ .requests) → (s ≡ s₀) × AllPeeks (parseFrom q at .requests)
+  pub sized : length (encodeAll (run (stateIn z s₀) (parseFrom q at₀ .requests) .replies)) ≤ roomFor (parseFrom q at₀ .requests)
 
 pub midway-start : {z : Shape} {s q : List ℕ} {at : ℕ} {p : List ℕ} {out : ℕ} → Held z s → HasRoom (parseFrom q at .requests) p out → Bytes q
     → Midway z s s q at p p out at out
-midway-start {q = q} {at = at} h y b =
+midway-start {z} {s} {q} {at} h y b =
     record {
       held = h;
       progress = progress-start (h .sound) (parse-sized-from q at b) y;
       rest = refl;
       same = refl;
       untouched = λ u. (refl, u);
+      sized = run-size (stateIn z s) (parseFrom q at .requests) (parse-sized-from q at b) (h .sound);
     }
 
 module _ {z : Shape} {s₀ s q : List ℕ} {at₀ : ℕ} {p₀ p : List ℕ} {out₀ at out : ℕ} (m : Midway z s₀ s q at₀ p₀ p out₀ at out) where
@@ -138,6 +145,7 @@ module _ {z : Shape} {s₀ s q : List ℕ} {at₀ : ℕ} {p₀ p : List ℕ} {ou
             rest = a .becomes .rest ∙ m .rest;
             same = n ∙ m .same;
             untouched = still;
+            sized = m .sized;
           }
 
   -- nothing more is read, whatever ends the records
@@ -149,6 +157,7 @@ module _ {z : Shape} {s₀ s q : List ℕ} {at₀ : ℕ} {p₀ p : List ℕ} {ou
         rest = m .rest;
         same = m .same;
         untouched = λ u. m .untouched u .0;
+        sized = m .sized;
       }
 
   pub midway-end : {x : Record} → meaning x ≡ readAt q at → x ≡ Over → Runs z s₀ s (parseFrom q at₀ .requests) p₀ p out₀ out
@@ -159,3 +168,45 @@ module _ {z : Shape} {s₀ s q : List ℕ} {at₀ : ℕ} {p₀ p : List ℕ} {ou
 
   pub midway-cut : {x : Record} → meaning x ≡ readAt q at → x ≡ Cut → Runs z s₀ s (parseFrom q at₀ .requests) p₀ p out₀ out
   midway-cut read is = ended (ap meaning (sym is) ∙ read) refl
+
+-- ---- one run after the other
+
+module _ {z : Shape} {s s₁ : List ℕ} {rs : List Request} {p p₁ : List ℕ} {m : ℕ} (a : Runs z s s₁ rs p p₁ 0 m) where
+  runs-wrote : Wrote p 0 (encodeAll (run (stateIn z s) rs .replies)) p₁ m
+  runs-wrote = record { bytes = a .carried .replies; end = a .carried .count }
+
+  -- there is room for more, where there was for both
+  pub runs-room : (more : List Request) → roomFor rs + roomFor more ≤ length p → HasRoom more p₁ m
+  runs-room more h =
+      let c = a .sized in
+      let n = a .carried .count in
+      let l = wrote-length runs-wrote (omega arith) in
+      record { within = omega arith; room = omega arith }
+
+  pub runs-runs : {s₂ : List ℕ} {more : List Request} {p₂ : List ℕ} {r : ℕ} → Runs z s₁ s₂ more p₁ p₂ m r → roomFor rs + roomFor more ≤ length p
+      → Runs z s s₂ (rs ++ more) p p₂ 0 r
+  runs-runs {s₂} {more} {p₂} {r} b h =
+      let σ = stateIn z s in
+      let τ = run σ rs .state in
+      let o : run σ (rs ++ more) ≡ tellFirst (run σ rs .replies) (run τ more) = run-append σ rs more in
+      let e : stateIn z s₁ ≡ τ = a .carried .state in
+      let first : List ℕ = encodeAll (run σ rs .replies) in
+      let second : List ℕ = encodeAll (run τ more .replies) in
+      let w : Wrote p₁ m second p₂ r = record { bytes = rw e at (b .carried .replies); end = rw e at (b .carried .count) } in
+      let x = a .sized in
+      let y : length second ≤ roomFor more = rw e at (b .sized) in
+      let v : Wrote p 0 (first ++ second) p₂ r = wrote-wrote runs-wrote w (omega arith) in
+      let bytes : encodeAll (run σ (rs ++ more) .replies) ≡ first ++ second =
+      ap (λ (u : Outcome). encodeAll (u .replies)) o ∙ encode-append (run σ rs .replies) (run τ more .replies) in
+      record {
+        held = b .held;
+        carried = record {
+          state = b .carried .state ∙ ap (λ (ρ : State). run ρ more .state) e ∙ sym (ap (λ (u : Outcome). u .state) o);
+          replies = v .bytes ∙ ap (splice p 0) (sym bytes);
+          count = v .end ∙ ap (λ (l : List ℕ). 0 + length l) (sym bytes);
+        };
+        rest = b .rest ∙ a .rest;
+        same = b .same ∙ a .same;
+        untouched = λ u. b .untouched (every-right Peeks rs more u) ∙ a .untouched (every-left Peeks rs more u);
+        sized = omega (arith, ap length bytes, length-append first second, room-append rs more);
+      }

@@ -43,8 +43,8 @@ pub stream-gives : {s c bs s′ c′ : List ℕ} {ps : List (List ℕ)} {σ : St
     → Stream s c ps bs s′ c′ → Given s c (feedAll σ k ps) bs s′ c′
 unfolding feedAll encodeAll
 stream-gives h b x over = record { replies = refl; holds = h; next = x; surplus = refl; same-length = refl }
-stream-gives {s} {c} {σ = σ} {k = k} h b x (feeds {q = q} {s₁ = s₁} {c₁ = c₁} {ps = ps} {r = r} n f g t) =
-    let o = goes-on r n h b x f g in
+stream-gives {s} {c} {σ = σ} {k = k} h b x (feeds {q = q} {s₁ = s₁} {c₁ = c₁} {ps = ps} {r = r} f g t) =
+    let o = goes-on r h b x f g in
     let w = o .went in
     let m = feedOn σ k q in
     let v = stream-gives (w .holds) (omega (arith, w .same-length)) (o .next) t in
@@ -86,8 +86,8 @@ record Set (s c : List ℕ) : Type 0 where
 
 -- a stream of one feed at least was lent them
 set-off : {s c q bs s′ c′ : List ℕ} {ps : List (List ℕ)} → Stream s c (q ∷ ps) bs s′ c′ → Set s c
-set-off {s} {c} (feeds {r = r} n f g t) =
-    let l = goes-lent r n f g in
+set-off {s} {c} (feeds {r = r} f g t) =
+    let l = goes-lent r f g in
     let y : ReadsAs s (reads (l .state)) = subst (ReadsAs s) (l .store-is) (f .store-is) in
     record { state = l .state; carry = l .carry; holds = y .1; long = y .0; carried = subst (ReadsCarry c) (l .carry-is) (f .carry-is) }
 

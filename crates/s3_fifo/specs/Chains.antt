@@ -22,19 +22,12 @@ use Rattle.s3_fifo.specs.declared.Creation.the-variants.{Made}
 use Rattle.s3_fifo.specs.declared.Ran.{Ran}
 use Rattle.s3_fifo.specs.declared.Ran.the-variants.{Done}
 use Rattle.s3_fifo.specs.declared.Fed.{Fed}
-use Rattle.s3_fifo.specs.declared.Fed.the-variants.{Done as Given, Stopped, Refused as Away}
 use Rattle.s3_fifo.specs.Calls.{turned, ranSays, Created, Called}
-use Rattle.s3_fifo.specs.Feeds.{fedSays, FedAs}
+use Rattle.s3_fifo.specs.Feeds.{fedSays, repliesIn, carriedOut, FedAs}
 
 -- the limits that settings stand for, where they are not refused
 abbrev pub limitsMade : Settings → Limits
 limitsMade settings = limitsFor (settings .capacity) (settings .«small_ratio») (settings .«ghost_ratio»)
-
--- a feed that was not turned away, with so many reply bytes; it may have stopped the stream
-abbrev pub Took : Fed → ℕ → Type 0
-Took (Given n) m = n ≡ m
-Took (Stopped n at) m = n ≡ m
-Took (Away t) m = ⊥
 
 -- the store now, the state that it held at first, the requests carried out since, by calls and by feeds of any streams, and the reply bytes to them. A finish
 -- is lent no store
@@ -44,10 +37,9 @@ pub data Chain : List ℕ → State → List Request → List ℕ → Type 0 whe
       → Called s q p (Done n) s′ p′ → Chain s′ σ₀ (rs ++ parse q .requests) (bs ++ take n p′)
   refused : {s q p s′ p′ : List ℕ} {r : Ran} {σ₀ : State} {rs : List Request} {bs : List ℕ} (n d : ℕ) → Chain s σ₀ rs bs
       → Called s q p r s′ p′ → ranSays r ≡ turned n d → Chain s′ σ₀ rs bs
-  fed : {s c q p s′ c′ p′ : List ℕ} {r : Fed} (n : ℕ) {σ₀ : State} {rs : List Request} {bs : List ℕ} → Chain s σ₀ rs bs → Bytes c → Bytes q
-      → (f : FedAs s c q p r s′ c′ p′) → Took r n → Chain s′ σ₀ (rs ++ completedOf (f .carry) q) (bs ++ take n p′)
-  unfed : {s c q p s′ c′ p′ : List ℕ} {r : Fed} {σ₀ : State} {rs : List Request} {bs : List ℕ} (n d : ℕ) → Chain s σ₀ rs bs
-      → FedAs s c q p r s′ c′ p′ → fedSays r ≡ turned n d → Chain s′ σ₀ rs bs
+  fed : {s c q p s′ c′ p′ : List ℕ} {r : Fed} {σ₀ : State} {rs : List Request} {bs : List ℕ} → Chain s σ₀ rs bs → Bytes c → Bytes q
+      → (f : FedAs s c q p r s′ c′ p′)
+      → Chain s′ σ₀ (rs ++ carriedOut (fedSays r) (completedOf (f .carry) q)) (bs ++ take (repliesIn (fedSays r)) p′)
 
 -- ---- what is promised of a chain
 

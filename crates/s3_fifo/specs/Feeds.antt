@@ -2,10 +2,10 @@
 -- Assumes nothing.
 use mathlib.Core.Path.{_≡_}
 use mathlib.Core.Bool.{cond}
-use mathlib.Core.List.{List, _++_}
+use mathlib.Core.List.{List, [], _++_}
 use Prim.Native.Nat.{ℕ}
 use lib.ListN.{length, drop}
-use Rattle.rules.specs.Records.{AllPeeks}
+use Rattle.rules.specs.Records.{Request, AllPeeks}
 use Rattle.rules.specs.Refusals.{numberOf, detailOf}
 use Rattle.rules.specs.Verdict.{Verdict, refused, done, Reads}
 use Rattle.rules.specs.Carry.{Carry, carryBytes, carryWritten, Carried, ReadsCarry}
@@ -24,6 +24,17 @@ fedSays (Refused t) = turned (numberOf t) (detailOf t)
 abbrev pub finishSays : Finish → Said
 finishSays Complete = gave 0
 finishSays (Broken t) = turned (numberOf t) (detailOf t)
+
+-- the reply bytes of an answer, and which of the requests it has carried out: a feed that is turned away carries out none
+abbrev pub repliesIn : Said → ℕ
+repliesIn (gave n) = n
+repliesIn (halted n d) = n
+repliesIn (turned n d) = 0
+
+abbrev pub carriedOut : Said → List Request → List Request
+carriedOut (gave n) rs = rs
+carriedOut (halted n d) rs = rs
+carriedOut (turned n d) rs = []
 
 -- what is said with so many reply bytes, by what is carried on: the stream goes on, or stops now
 abbrev pub saidWith : Carry → ℕ → Said

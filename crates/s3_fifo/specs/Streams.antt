@@ -5,25 +5,24 @@ use mathlib.Core.Path.{_≡_}
 use mathlib.Core.List.{List, [], _∷_, _++_}
 use Prim.Native.Nat.{ℕ}
 use lib.ListN.{take}
-use Rattle.rules.specs.Refusals.{numberOf}
 use Rattle.s3_fifo.specs.declared.Fed.{Fed}
-use Rattle.s3_fifo.specs.declared.Fed.the-variants.{Done, Stopped, Refused}
 use Rattle.s3_fifo.specs.declared.Finish.{Finish}
 use Rattle.s3_fifo.specs.declared.Finish.the-variants.{Complete}
-use Rattle.s3_fifo.specs.Feeds.{FedAs, Finished}
+use Rattle.s3_fifo.specs.Feeds.{fedSays, repliesIn, FedAs, Finished}
+use Rattle.s3_fifo.specs.Calls.{Said, gave, halted, turned}
 use Rattle.s3_fifo.specs.Once.{Alike}
 
--- a feed that was not turned away by 6, 7, 8, 10 or 17, with so many reply bytes; one of a stream that has stopped before gives 9 and none
-abbrev pub Goes : Fed → ℕ → Type 0
-Goes (Done n) m = n ≡ m
-Goes (Stopped n at) m = n ≡ m
-Goes (Refused t) m = (numberOf t ≡ 9) × (m ≡ 0)
+-- an answer to a feed that was not turned away by 6, 7, 8, 10 or 17; a stream that has stopped before gives 9
+abbrev pub Goes : Said → Type 0
+Goes (gave n) = Unit {0}
+Goes (halted n d) = Unit {0}
+Goes (turned n d) = n ≡ 9
 
 -- from the store s and the record c: the pieces, the replies joined, the store and the record after them
 pub data Stream : List ℕ → List ℕ → List (List ℕ) → List ℕ → List ℕ → List ℕ → Type 0 where
   over : {s c : List ℕ} → Stream s c [] [] s c
-  feeds : {s c q p s₁ c₁ p₁ bs s′ c′ : List ℕ} {ps : List (List ℕ)} {r : Fed} (n : ℕ) → FedAs s c q p r s₁ c₁ p₁ → Goes r n
-      → Stream s₁ c₁ ps bs s′ c′ → Stream s c (q ∷ ps) (take n p₁ ++ bs) s′ c′
+  feeds : {s c q p s₁ c₁ p₁ bs s′ c′ : List ℕ} {ps : List (List ℕ)} {r : Fed} → FedAs s c q p r s₁ c₁ p₁ → Goes (fedSays r)
+      → Stream s₁ c₁ ps bs s′ c′ → Stream s c (q ∷ ps) (take (repliesIn (fedSays r)) p₁ ++ bs) s′ c′
 
 -- two streams that nobody can tell apart by what they gave and left
 pub record OneStream (bs₁ bs₂ s₁ s₂ c₁ c₂ : List ℕ) : Type 0 where

@@ -1,9 +1,13 @@
-// The mapping cache's whole calls (RULES 7): creation, and running requests, as functions of the cache's own type. They ask nothing of their
-// caller: every byte that is lent is checked here, a call is turned away exactly in the cases of the table of refusals (RULES 8), and then no byte has changed.
+// The mapping cache's whole calls (RULES 7): creation, running requests, and requests fed in pieces, as functions of the cache's own type. They ask nothing of
+// their caller: every byte that is lent is checked here, a call is turned away exactly in the cases of the table of refusals (RULES 8), and then no byte has
+// changed.
 ghost use mathlib.Core.Path.{_≡_};
+ghost use mathlib.Core.List.{_++_};
 ghost use Prim.Native.Nat.{_+_, _≤_, _<_};
 ghost use lib.ListN.{length};
-ghost use Rattle.rules.specs.Bytes.{encodeAll, parseFrom};
+ghost use Rattle.rules.specs.Bytes.{encodeAll, parseFrom, parse};
+ghost use Rattle.rules.specs.Carry.{lastOffset, carryBytes, leftBy};
+ghost use Rattle.carry.specs.Carries.{headBytes, keptIn, Brings};
 ghost use Rattle.rules.specs.Sizing.{defaultsFor};
 ghost use Rattle.rules.specs.Refusals.{storeBytes, mostRequestBytes};
 ghost use Rattle.sizing.specs.Answers.{asksOf};
@@ -12,8 +16,11 @@ ghost use Rattle.wire.specs.CarriedOut.{HasRoom};
 ghost use Rattle.evict.specs.Evicts.{pushedOf};
 ghost use Rattle.requests.specs.Answers.{spokenOf};
 ghost use Rattle.store.specs.Holds.{Held};
-ghost use Rattle.s3_fifo.specs.Runs.{Runs, TurnsAway};
+ghost use Rattle.s3_fifo.specs.Runs.{Runs, TurnsAway, FedOn};
 ghost use Rattle.s3_fifo.specs.Calls.{Created, Called};
+ghost use Rattle.s3_fifo.specs.Feeds.{FedAs, Finished};
+use carry::Brought;
+use carry::Head;
 use evict::Pushed;
 use requests::Spoken;
 use rules::Turned;
@@ -142,6 +149,122 @@ fn run_sound(store: &mut [u8], z: Shape, requests: &[u8], replies: &mut [u8]) ->
     }
 }
 
+// A feed of what stands in front of a piece, a whole record or nothing, and of the piece from `from` on. The piece's first byte has the offset `base`.
+fn feed_whole(
+    store: &mut [u8],
+    z: Shape,
+    carry: &mut [u8],
+    base: u64,
+    head: &[u8],
+    piece: &[u8],
+    from: usize,
+    replies: &mut [u8],
+) -> Fed
+    requires { ⌜ Held z (now store) × (carryBytes ≤ length (now carry)) × (from ≤ length (now piece)) × (length (now piece) ≤ mostRequestBytes)
+        × (length (now head) ≤ headBytes) × (base + length (now piece) ≤ lastOffset) ⌝ }
+    ensures { λ r. ⌜ FedOn z (now (store .entry)) (now (store .exit)) (now (carry .entry)) (now (carry .exit)) (now (replies .entry)) (now (replies .exit))
+        (parse (now (head .entry)) .requests ++ parseFrom (now (piece .entry)) from .requests)
+        (leftBy base (now (piece .entry)) (parseFrom (now (piece .entry)) from .end)) r ⌝ }
+{
+    let first = wire::survey_all(head);
+    let rest = wire::survey_from(piece, from);
+    let room = first.room + rest.room;
+    if replies.len() < room {
+        return Fed::Refused(Turned::NoRoom(room as u64));
+    }
+    let middle = run_from(store, z, head, 0, replies, 0);
+    let out = run_from(store, z, piece, from, replies, middle);
+    let end = base + rest.at as u64;
+    let stop = rest.stop;
+    match stop {
+        Stop::Unknown => {
+            carry::put(carry, end, true, piece, piece.len());
+            Fed::Stopped(out, end)
+        }
+        Stop::Cut => {
+            carry::put(carry, end, false, piece, rest.at);
+            Fed::Done(out)
+        }
+        Stop::Whole => {
+            carry::put(carry, end, false, piece, rest.at);
+            Fed::Done(out)
+        }
+    }
+}
+
+// A feed of a stream that goes on: the record that was cut is put together with the piece's first bytes.
+fn feed_going(
+    store: &mut [u8],
+    z: Shape,
+    carry: &mut [u8],
+    offset: u64,
+    count: usize,
+    piece: &[u8],
+    replies: &mut [u8],
+) -> Fed
+    requires { ⌜ Held z (now store) × Brings (now carry) (Brought.Going offset count) × (offset + count + length (now piece) ≤ lastOffset)
+        × (length (now piece) ≤ mostRequestBytes) ⌝ }
+    ensures { λ r. ⌜ FedOn z (now (store .entry)) (now (store .exit)) (now (carry .entry)) (now (carry .exit)) (now (replies .entry)) (now (replies .exit))
+        (parse (keptIn (now (carry .entry)) count ++ now (piece .entry)) .requests)
+        (leftBy offset (keptIn (now (carry .entry)) count ++ now (piece .entry)) (parse (keptIn (now (carry .entry)) count ++ now (piece .entry)) .end)) r ⌝ }
+{
+    let mut head = [0u8; carry::HEAD_BYTES];
+    let joined = carry::join(carry, count, piece, &mut head);
+    match joined {
+        Head::Cut(n) => {
+            carry::put(carry, offset, false, &head[0..n], 0);
+            Fed::Done(0)
+        }
+        Head::Unknown => {
+            carry::put(carry, offset, true, piece, piece.len());
+            Fed::Stopped(0, offset)
+        }
+        Head::Whole(n) => feed_whole(
+            store,
+            z,
+            carry,
+            offset + count as u64,
+            &head[0..n],
+            piece,
+            n - count,
+            replies,
+        ),
+    }
+}
+
+// A feed on a store that holds a state.
+fn feed_sound(
+    store: &mut [u8],
+    z: Shape,
+    brought: Brought,
+    carry: &mut [u8],
+    piece: &[u8],
+    replies: &mut [u8],
+) -> Fed
+    requires { ⌜ Held z (now store) × (storeBytes ≤ length (now store)) × Brings (now carry) brought ⌝ }
+    ensures { λ r. ⌜ FedAs (now (store .entry)) (now (carry .entry)) (now (piece .entry)) (now (replies .entry)) r
+        (now (store .exit)) (now (carry .exit)) (now (replies .exit)) ⌝ }
+{
+    match brought {
+        Brought::Unfit => Fed::Refused(Turned::BadCarry),
+        Brought::Stopped(at) => {
+            if rules::MOST_REQUEST_BYTES < piece.len() {
+                return Fed::Refused(Turned::LongRequests);
+            }
+            Fed::Refused(Turned::BadRecord(at))
+        }
+        Brought::Going(offset, count) => {
+            if u64::MAX - offset - (count as u64) < piece.len() as u64 {
+                return Fed::Refused(Turned::BadCarry);
+            }
+            if rules::MOST_REQUEST_BYTES < piece.len() {
+                return Fed::Refused(Turned::LongRequests);
+            }
+            feed_going(store, z, carry, offset, count, piece, replies)
+        }
+    }
+}
+
 // The cache's own type. The cache itself stands in a store that the caller lends.
 pub struct S3FifoCache;
 
@@ -155,8 +278,11 @@ impl S3FifoCache {
     // The one fixed size of a store.
     pub const STORE_BYTES: usize = 61696;
 
+    // What a feed carries to the next.
+    pub const CARRY_BYTES: usize = rules::CARRY_BYTES;
+
     // The version of the interface. It stands here alone: header, wrapper and programs take it from here (tools/version).
-    pub const VERSION: [u8; 5] = *b"0.3.0";
+    pub const VERSION: [u8; 5] = *b"0.4.0";
 
     // The settings that a capacity alone stands for.
     pub fn settings(capacity: u64) -> Settings
@@ -200,6 +326,40 @@ impl S3FifoCache {
         match checked {
             Checked::Damaged => Ran::Refused(Turned::DamagedStore),
             Checked::Sound(z) => run_sound(store, z, requests, replies),
+        }
+    }
+
+    // Feeds a piece of a stream of requests: carries out the records that it completes, and keeps a record that it cuts for the next feed. What is
+    // carried from feed to feed stands in bytes that the caller lends, all zero for a new stream.
+    pub fn feed(store: &mut [u8], carry: &mut [u8], piece: &[u8], replies: &mut [u8]) -> Fed
+        ensures { λ r. ⌜ FedAs (now (store .entry)) (now (carry .entry)) (now (piece .entry)) (now (replies .entry)) r
+            (now (store .exit)) (now (carry .exit)) (now (replies .exit)) ⌝ }
+    {
+        let brought = carry::read(carry);
+        if store.len() < S3FifoCache::STORE_BYTES {
+            return Fed::Refused(Turned::ShortStore);
+        }
+        let checked = soundness::check(store);
+        match checked {
+            Checked::Damaged => Fed::Refused(Turned::DamagedStore),
+            Checked::Sound(z) => feed_sound(store, z, brought, carry, piece, replies),
+        }
+    }
+
+    // Whether a stream may end here: it has not stopped, and no record is cut.
+    pub fn finish(carry: &[u8]) -> Finish
+        ensures { λ r. ⌜ Finished (now (carry .entry)) r ⌝ }
+    {
+        let brought = carry::read(carry);
+        match brought {
+            Brought::Unfit => Finish::Refused(Turned::BadCarry),
+            Brought::Stopped(at) => Finish::Refused(Turned::BadRecord(at)),
+            Brought::Going(offset, count) => {
+                if count != 0 {
+                    return Finish::Refused(Turned::BadRecord(offset));
+                }
+                Finish::Complete
+            }
         }
     }
 }

@@ -164,7 +164,7 @@ pub fn next(s: &[u8], at: usize) -> Record
 }
 
 // The walk over the records from an offset on: the reply room of those that are whole, and where and how it ends.
-fn survey_from(s: &[u8], start: usize) -> Survey
+pub fn survey_from(s: &[u8], start: usize) -> Survey
     requires { ⌜ (start ≤ length (now s)) × (length (now s) ≤ mostRequestBytes) ⌝ }
     ensures { λ r. ⌜ r ≡ surveyed (length (now (s .entry))) (parseFrom (now (s .entry)) start) ⌝ }
 {

@@ -85,7 +85,7 @@ put-front {c} {form} {before} l n e =
 pub put-carried : {before after : List ℕ} {c : Carry} → Put before c after → carryBytes ≤ length before → couldLeave c ≡ true → CarryAs after c
 put-carried {before} {after} {c} p h l =
     let n : length (carryWritten c) ≡ carryBytes = carry-length c (omega (arith, could-few c l)) in
-    let all : length after ≡ length (carryWritten c) + length (drop carryBytes before) = ap length (p .is) ∙ length-append (carryWritten c) (drop carryBytes before) in
+    let all = ap length (p .is) ∙ length-append (carryWritten c) (drop carryBytes before) in
     record { long = omega arith; written = ap (take carryBytes) (p .is) ∙ take-at (carryWritten c) (drop carryBytes before) carryBytes n; could = l }
 
 -- ---- compared with the bytes lent

@@ -15,7 +15,8 @@ use Rattle.rules.specs.declared.Kind.{Kind}
 use Rattle.rules.specs.declared.Row.{Row}
 use Rattle.rules.specs.Records.{Request}
 use Rattle.rules.specs.Bytes.{row, table, find, Spot, at, unknown, cut, over, within, spotAt, made}
-use Rattle.rules.specs.Bytes.{Reading, ask, strange, short, end, reading, readAt, whole, unknownAt, cutAt, Parsed, ends, with, onReading, parseFrom, parse}
+use Rattle.rules.specs.Bytes.{Reading, ask, strange, short, end, reading, readAt, whole, unknownAt, cutAt}
+use Rattle.rules.specs.Bytes.{Parsed, ends, with, onReading, parseFrom, parse}
 use Rattle.rules.specs.Carry.{waits, leftBy}
 use Rattle.rules.proofs.TableLaws.{find-known, row-kind, row-bytes}
 use Rattle.rules.proofs.ParseLaws.{Lies, spot-lies, read-goes, read-end, parse-step}

@@ -2,12 +2,13 @@
 -- Assumes nothing.
 use mathlib.Core.Path.{_≡_, refl, sym, ap, ap₂, _∙_, subst}
 use mathlib.Core.Bool.{Bool, true, false, cond, _||_}
-use mathlib.Core.List.{List, []}
+use mathlib.Core.List.{List, [], _++_}
 use Prim.Native.Nat.{ℕ, zero, suc, _≤_}
 use native.Mathlib.Omega.{arith}
 use lib.Dec.{eqb, ltb}
-use lib.ListN.{length}
+use lib.ListN.{length, take}
 use lib.IntN.{ℤ, pos, negsuc, negℤ}
+use Rattle.cells.specs.Cells.{Bytes}
 use lib.Ieee.{Float, lt}
 use Rattle.rules.specs.declared.Turned.the-variants.{ShortStore}
 use Rattle.rules.specs.State.{State, most, emptyAt}
@@ -21,13 +22,20 @@ use Rattle.s3_fifo.specs.declared.Creation.{Creation}
 use Rattle.s3_fifo.specs.declared.Creation.the-variants.{Made, Refused as NotMade}
 use Rattle.s3_fifo.specs.declared.Ran.{Ran}
 use Rattle.s3_fifo.specs.declared.Ran.the-variants.{Done, Refused}
-use Rattle.s3_fifo.specs.Calls.{Said, gave, turned, createdSays, ranSays, Follows, Created, Called}
+use Rattle.rules.specs.Feed.{completedOf}
+use Rattle.s3_fifo.specs.declared.Fed.{Fed}
+use Rattle.s3_fifo.specs.declared.Fed.the-variants.{Done as Given, Stopped, Refused as Away}
+use Rattle.s3_fifo.specs.declared.Finish.{Finish}
+use Rattle.s3_fifo.specs.Feeds.{fedSays, finishSays, repliesIn, carriedOut}
+use Rattle.s3_fifo.specs.Streams.{Goes, Stream, over, feeds}
+use Rattle.s3_fifo.specs.Calls.{Said, gave, halted, turned, createdSays, ranSays, Follows, Created, Called}
 use Rattle.s3_fifo.specs.Once.{Agrees}
-use Rattle.s3_fifo.specs.Chains.{Chain, start, accepted, refused}
+use Rattle.s3_fifo.specs.Chains.{Chain, start, accepted, refused, fed}
 use Rattle.s3_fifo.proofs.ChainLaws.{created-intact, called-intact}
+use Rattle.s3_fifo.proofs.StreamLaws.{cut-anywhere, as-one-call}
 use Rattle.s3_fifo.proofs.OnceLaws as once
-use Rattle.mapcache.specs.Codes.{codeOf, detailIn, CreatedAs, CalledAs}
-use Rattle.mapcache.specs.Exported.{Negative, OneOutcome, Exported}
+use Rattle.mapcache.specs.Codes.{codeOf, detailIn, CreatedAs, CalledAs, FedWith, FinishedWith}
+use Rattle.mapcache.specs.Exported.{Negative, OneOutcome, OneFed, Streamed, over as over·, feeds as feeds·, Exported}
 
 -- ---- what a code and a detail say
 
@@ -46,11 +54,15 @@ below-minus (suc n) = refl
 -- a refusal has a number
 abbrev Numbered : Said → Type 0
 Numbered (gave n) = Unit {0}
+Numbered (halted n d) = ⊥
 Numbered (turned n d) = 1 ≤ n
 
 code-once : (a b : Said) → Numbered a → Numbered b → codeOf a ≡ codeOf b → detailIn a ≡ detailIn b → a ≡ b
 code-once (gave n) (gave m) h g e d = ap gave (ap above e)
 code-once (gave n) (turned m f) h g e d = absurd (omega (arith, ap below e, below-minus m))
+code-once (gave n) (halted m f) h g e d = absurd g
+code-once (turned n d) (halted m f) h g e k = absurd g
+code-once (halted n d) b h g e k = absurd h
 code-once (turned n d) (gave m) h g e f = absurd (omega (arith, ap below e, below-minus n))
 code-once (turned n d) (turned m f) h g e k = ap₂ turned (sym (below-minus n) ∙ ap below e ∙ below-minus m) k
 
@@ -105,9 +117,10 @@ created-apart r t c d e =
 
 -- ---- one outcome
 
-refused-bytes : (a : Said) {m : ℤ} {s₁ s₂ : List ℕ} → m ≡ codeOf a → Agrees a s₁ s₂ → Negative m → s₁ ≡ s₂
-refused-bytes (gave n) e g h = absurd (subst Negative e h)
-refused-bytes (turned n d) e g h = g .refused-same n d refl
+refused-bytes : (a : Said) {m : ℤ} {s₁ s₂ : List ℕ} → Numbered a → m ≡ codeOf a → Agrees a s₁ s₂ → Negative m → s₁ ≡ s₂
+refused-bytes (gave n) k e g h = absurd (subst Negative e h)
+refused-bytes (halted n d) k e g h = absurd k
+refused-bytes (turned n d) k e g h = g .refused-same n d refl
 
 created-once : {capacity : ℕ} {small ghost : Float} {s s₁ s₂ : List ℕ} {m n : ℤ} → CreatedAs capacity small ghost s m s₁
     → CreatedAs capacity small ghost s n s₂ → OneOutcome m n 0 0 s₁ s₂ [] []
@@ -117,7 +130,7 @@ created-once c d =
       code = c .code-is ∙ ap (λ (r : Creation). codeOf (createdSays r)) (o .answer) ∙ sym (d .code-is);
       detail = refl;
       replies = refl;
-      refused-same = refused-bytes (createdSays (c .answer)) (c .code-is) (o .stores);
+      refused-same = refused-bytes (createdSays (c .answer)) (numbered-created (c .answer)) (c .code-is) (o .stores);
       said = createdSays (c .answer);
       said-is = c .code-is;
       stores = o .stores;
@@ -130,7 +143,7 @@ called-once c d =
       code = c .code-is ∙ ap (λ (r : Ran). codeOf (ranSays r)) (o .answer) ∙ sym (d .code-is);
       detail = c .detail-is ∙ ap (λ (r : Ran). detailIn (ranSays r)) (o .answer) ∙ sym (d .detail-is);
       replies = o .replies;
-      refused-same = refused-bytes (ranSays (c .answer)) (c .code-is) (o .stores);
+      refused-same = refused-bytes (ranSays (c .answer)) (numbered-ran (c .answer)) (c .code-is) (o .stores);
       said = ranSays (c .answer);
       said-is = c .code-is;
       stores = o .stores;
@@ -163,6 +176,65 @@ chain-stays {s} {q} {p} {s′} {p′} {m} {d} {σ₀} {rs} {bs} g c h = by-answe
     by-answer (Done n) e k = absurd (subst Negative e h)
     by-answer (Refused t) e k = refused (numberOf t) (detailOf t) g k refl
 
+-- ---- feeds and streams
+
+fed-once : {s c q p s₁ s₂ c₁ c₂ p₁ p₂ : List ℕ} {m n : ℤ} {i j d e : ℕ} → FedWith s c q p m i d s₁ c₁ p₁ → FedWith s c q p n j e s₂ c₂ p₂
+    → OneFed m n i j d e s₁ s₂ c₁ c₂ p₁ p₂
+fed-once f g =
+    let o = once.fed-once (f .answer) (g .answer) (f .fed) (g .fed) in
+    record {
+      code = f .code-is ∙ ap (λ (r : Fed). codeOf (fedSays r)) (o .answer) ∙ sym (g .code-is);
+      replied = f .replied-is ∙ ap (λ (r : Fed). repliesIn (fedSays r)) (o .answer) ∙ sym (g .replied-is);
+      detail = f .detail-is ∙ ap (λ (r : Fed). detailIn (fedSays r)) (o .answer) ∙ sym (g .detail-is);
+      carries = o .carries;
+      replies = o .replies;
+      said = fedSays (f .answer);
+      said-is = f .code-is;
+      stores = o .stores;
+    }
+
+finished-once : {c : List ℕ} {m n : ℤ} {d e : ℕ} → FinishedWith c m d → FinishedWith c n e → (m ≡ n) × (d ≡ e)
+finished-once f g =
+    let o = once.finished-once (f .answer) (g .answer) (f .finished) (g .finished) in
+    (
+      f .code-is ∙ ap (λ (r : Finish). codeOf (finishSays r)) o ∙ sym (g .code-is),
+      f .detail-is ∙ ap (λ (r : Finish). detailIn (finishSays r)) o ∙ sym (g .detail-is),
+    )
+
+chain-feeds : {s c q p s′ c′ p′ : List ℕ} {m : ℤ} {n d : ℕ} {σ₀ : State} {rs : List Request} {bs : List ℕ} → Chain s σ₀ rs bs → Bytes c → Bytes q
+    → (f : FedWith s c q p m n d s′ c′ p′)
+    → Chain s′ σ₀ (rs ++ carriedOut (fedSays (f .answer)) (completedOf (f .fed .carry) q)) (bs ++ take n p′)
+chain-feeds {q = q} {s′ = s′} {p′ = p′} {σ₀ = σ₀} {rs = rs} {bs = bs} g b d f =
+    subst (λ (i : ℕ). Chain s′ σ₀ (rs ++ carriedOut (fedSays (f .answer)) (completedOf (f .fed .carry) q)) (bs ++ take i p′)) (sym (f .replied-is))
+    (fed g b d (f .fed))
+
+-- a refusal of a feed has a number
+abbrev Numbered· : Said → Type 0
+Numbered· (gave n) = Unit {0}
+Numbered· (halted n d) = Unit {0}
+Numbered· (turned n d) = 1 ≤ n
+
+numbered-fed : (r : Fed) → Numbered· (fedSays r)
+numbered-fed (Given n) = tt
+numbered-fed (Stopped n d) = tt
+numbered-fed (Away t) = some-number t
+
+minus-negative : (n : ℕ) → 1 ≤ n → Negative (negℤ (pos n))
+minus-negative zero h = absurd (omega arith)
+minus-negative (suc n) h = tt
+
+-- a code that is not below 0, or is 9's, goes on
+code-goes : (a : Said) {m : ℤ} → m ≡ codeOf a → (Negative m → m ≡ negℤ (pos 9)) → Numbered· a → Goes a
+code-goes (gave n) e g h = tt
+code-goes (halted n d) e g h = tt
+code-goes (turned n d) {m} e g h = sym (below-minus n) ∙ ap below (sym e ∙ g (subst Negative (sym e) (minus-negative n h)))
+
+streamed : {s c bs s′ c′ : List ℕ} {ps : List (List ℕ)} → Streamed s c ps bs s′ c′ → Stream s c ps bs s′ c′
+streamed over· = over
+streamed (feeds· {p₁ = p₁} {bs = bs} {s′ = s′} {c′ = c′} {ps = ps} f g t) =
+    subst (λ (i : ℕ). Stream _ _ _ (take i p₁ ++ bs) s′ c′) (sym (f .replied-is))
+    (feeds (f .fed) (code-goes (fedSays (f .answer)) (f .code-is) g (numbered-fed (f .answer))) (streamed t))
+
 pub exported : Exported
 exported =
     record {
@@ -175,4 +247,9 @@ exported =
       chain-starts = λ c. start (made c);
       chain-grows = λ g b c. accepted g b (ran c);
       chain-stays = chain-stays;
+      fed-once = fed-once;
+      finished-once = finished-once;
+      chain-feeds = chain-feeds;
+      cut-anywhere = λ ps qs a b e. cut-anywhere ps qs (streamed a) (streamed b) e;
+      as-one-call = λ ps x t c. as-one-call ps x (streamed t) (ran c);
     }

@@ -321,7 +321,7 @@ cut-in s i e = pick (leb (length s) i) refl e
     pick true g e = let z : _≡_ {A = ℕ} 0 1 = cc in absurd (omega arith)
     pick false g e = leb-false (length s) i g
 
-some-kept : (l : List ℕ) → 0 < length l → null l ≡ false
+pub some-kept : (l : List ℕ) → 0 < length l → null l ≡ false
 some-kept [] h = absurd (omega arith)
 some-kept (x ∷ l) h = refl
 

@@ -16,7 +16,7 @@ RUST := --workspace $(if $(HAVE_ORIGINAL),$(THIN_FEATURES),--exclude original --
 
 .PHONY: host-test host-c host-rust host-thin host-tools host-run pieces rust-lint rust-fmt rust-clippy constants fuzz-gate fuzz
 
-host-test: host-c host-rust host-thin host-tools host-run host-install
+host-test: host-c host-rust pieces host-thin host-tools host-run host-install
 
 rust-lint: rust-fmt rust-clippy
 
@@ -65,6 +65,9 @@ host-c: $(ARCHIVE) $(HEADER) $(HOST)/example.c $(HOST)/pieces.c
 
 host-rust: $(ARCHIVE)
 	@$(call said,host-rust,$(CARGO) test $(CARGO_FLAGS) -p common -p mapcache)
+
+pieces: $(ARCHIVE)
+	@$(CARGO) run $(CARGO_FLAGS) -p mapcache --example pieces
 
 # The scenario that it shows to people, then random runs.
 host-thin: $(ARCHIVE) | $(HOST)

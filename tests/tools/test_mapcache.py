@@ -176,6 +176,16 @@ class Explain(unittest.TestCase):
         self.assertIn(b"Lend 32 bytes, zero where a stream starts", mapcache("explain", "17")[1].replace(b"\n", b" "))
         self.assertNotIn(b"detail 5", mapcache("explain", "17", "5")[1])
 
+    def test_the_manual_page_has_the_orders_of_the_header(self):
+        with open(os.environ["HEADER"], encoding="utf-8") as file:
+            of_header = dict(re.findall(r"^ \*   (mapcache_\w+) +(\d.*)$", file.read(), re.M))
+        with open(os.path.join(HERE, "../../man/mapcache.1.in"), encoding="utf-8") as file:
+            of_page = dict(re.findall(r'^\.BR (mapcache_\w+) " +(\d.*)"$', file.read(), re.M))
+        self.assertEqual(set(of_page), set(of_header))
+        for call, order in of_header.items():
+            # a new 9 comes after them all, and the page says so in words
+            self.assertEqual(re.findall(r"\d+", of_page[call]), re.findall(r"\d+", order.split(";")[0]), call)
+
     def test_no_such_refusal(self):
         others = set(range(self.numbers[-1] + 2)) - set(self.numbers)
         self.assertTrue({0, 11, 16, 18} <= others)

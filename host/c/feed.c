@@ -200,6 +200,19 @@ static void two_streams_and_a_run(void)
     end(one);
 }
 
+/* The two numbers alone have to be aligned. */
+static void odd_addresses(void)
+{
+    struct buffer memory = block(1 + MAPCACHE_CARRY_BYTES, 0), replies = block(1 + 28, 0xEE);
+    struct buffer piece = joined(bytes("?", 1), written(RECORDS(IN(7, 70))));
+    struct stream s = {created(1, 0.1, 0.9, MAPCACHE_STORE_BYTES), {memory.bytes + 1, MAPCACHE_CARRY_BYTES}};
+    uint64_t replied;
+    struct fed f = feed(s, (struct buffer){piece.bytes + 1, 18}, (struct buffer){replies.bytes + 1, 28}, &replied);
+    CHECK(f.answer == 10 && memcmp(replies.bytes, "\xEENW", 3) == 0 && number_at(s.carry.bytes) == 18);
+    FINISHES(s, 0, 0);
+    free(memory.bytes), free(replies.bytes), free(piece.bytes), free(s.store.bytes);
+}
+
 /* ---- refusals, on both sides of their limits and in their order */
 
 static void short_and_damaged_stores(void)
@@ -475,6 +488,7 @@ int main(int argc, char **argv)
     no_pair_leaves_untold();
     marks_that_are_cut();
     two_streams_and_a_run();
+    odd_addresses();
     short_and_damaged_stores();
     long_pieces();
     reply_room();

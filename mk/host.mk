@@ -1,20 +1,22 @@
 # For hosts: their tests, the fuzzer, the lints of all Rust.
 #
 #   make host-test                   hosts in C (plain, sanitized, under valgrind) and Rust, the example host, the tools
+#   make pieces                      a long stream of requests cut at random, beside the same requests in whole calls
 #   make rust-lint                   rustfmt (rust-fmt) and clippy (rust-clippy) over hosts, tests and benchmark, warnings as errors
 #   make constants                   header, wrapper and tools have the constants of the proved code
 #   make fuzz-gate                   bad input at scale: the calls that `make test` makes, a fixed seed
 #   make fuzz SEED=7 CALLS=10000000  any seed, any number of calls
 
+VALGRIND := valgrind -q --error-exitcode=9 --leak-check=full
 FUZZ := $(CARGO) run $(CARGO_FLAGS) -p mapcache-fuzz --
 
 # All Rust of the workspace, as far as it can be built: some of it is made of the original.
 THIN_FEATURES := $(if $(HAVE_ORIGINAL),--features thin-runs/original)
 RUST := --workspace $(if $(HAVE_ORIGINAL),$(THIN_FEATURES),--exclude original --exclude differential --exclude bench)
 
-.PHONY: host-test host-c host-rust host-thin host-tools host-run rust-lint rust-fmt rust-clippy constants fuzz-gate fuzz
+.PHONY: host-test host-c host-rust host-thin host-tools host-run pieces rust-lint rust-fmt rust-clippy constants fuzz-gate fuzz
 
-host-test: host-c host-rust host-thin host-tools host-run host-install
+host-test: host-c host-rust pieces host-thin host-tools host-run host-install
 
 rust-lint: rust-fmt rust-clippy
 
@@ -29,30 +31,43 @@ rust-clippy: $(ARCHIVE)
 	@$(CARGO_HERE) clippy $(CARGO_FLAGS) $(RUST) --all-targets -- -D warnings
 	@echo 'rust-clippy: no warning$(if $(HAVE_ORIGINAL),, (without what is made of the original))'
 
-# The header's worked example is cut out of its comment, so that what people copy is what is compiled.
+# The header's worked examples are cut out of its comment, so that what people copy is what is compiled.
 EXAMPLE_SAYS := 38 bytes: NW 0, then ES 7 70, NW 1
+PIECES_SAY := NW 0, ES 7, NW 1, refused: 9 at offset 36
 $(HOST)/example.c: $(HEADER)
 	@sed -n '/--- example begins ---/,/--- example ends ---/{//!s/^ \* \{0,1\}//p}' $< > $@
 	@test -s $@ || { echo '$<: there is no example in it' >&2; exit 1; }
 
-host-c: $(ARCHIVE) $(HEADER) $(HOST)/example.c
+$(HOST)/pieces.c: $(HEADER)
+	@sed -n '/--- pieces begin ---/,/--- pieces end ---/{//!s/^ \* \{0,1\}//p}' $< > $@
+	@test -s $@ || { echo '$<: there is no example of pieces in it' >&2; exit 1; }
+
+# Compiles the header's example $(1), which has to print $(2).
+header_example = $(CC) $(CFLAGS) $(HOST)/$(1).c $(ARCHIVE) -o $(HOST)/$(1) && test "$$($(HOST)/$(1))" = '$(2)' || \
+	{ echo 'host/mapcache.h.in: its example $(1) prints something else' >&2; exit 1; }
+
+host-c: $(ARCHIVE) $(HEADER) $(HOST)/example.c $(HOST)/pieces.c
 	@tests/archive/check $(NM) $(ARCHIVE)
-	@$(CC) $(CFLAGS) $(HOST)/example.c $(ARCHIVE) -o $(HOST)/example
-	@test "$$($(HOST)/example)" = '$(EXAMPLE_SAYS)' || \
-		{ echo 'host/mapcache.h.in: its example prints something else' >&2; exit 1; }
-	@$(CC) $(CFLAGS) host/c/test.c $(ARCHIVE) -o $(HOST)/test
+	@$(call header_example,example,$(EXAMPLE_SAYS))
+	@$(call header_example,pieces,$(PIECES_SAY))
+	@for host in test feed; do $(CC) $(CFLAGS) host/c/$$host.c $(ARCHIVE) -o $(HOST)/$$host && \
+		$(CC) $(CFLAGS) $(SANITIZE) host/c/$$host.c $(ARCHIVE) -o $(HOST)/$$host-sanitized || exit 1; done
 	@$(call said,c-host,$(HOST)/test $(RECORDED)/calls.bin $(GATE_RANDOM_CALLS) $(HOST)/trace_d.store)
-	@$(CC) $(CFLAGS) $(SANITIZE) host/c/test.c $(ARCHIVE) -o $(HOST)/test-sanitized
+	@$(call said,c-host-feed,$(HOST)/feed $(GATE_STREAMS))
 	@echo 'c host, sanitizers of $(if $(NATIVE),addresses and )undefined behaviour:' && \
-		$(HOST)/test-sanitized $(RECORDED)/calls.bin $(GATE_RANDOM_CALLS)
+		$(HOST)/test-sanitized $(RECORDED)/calls.bin $(GATE_RANDOM_CALLS) && $(HOST)/feed-sanitized $(GATE_STREAMS)
 	@if test -z '$(NATIVE)'; then echo 'host-c: valgrind cannot look into an emulator: that run is left out'; \
 	elif command -v valgrind > /dev/null; then \
 		echo 'c host, valgrind:' && \
-		$(call said,c-host-valgrind,valgrind -q --error-exitcode=9 --leak-check=full $(HOST)/test $(RECORDED)/calls.bin $(VALGRIND_CALLS)); \
+		$(call said,c-host-valgrind,$(VALGRIND) $(HOST)/test $(RECORDED)/calls.bin $(VALGRIND_CALLS)) && \
+		$(call said,c-host-feed-valgrind,$(VALGRIND) $(HOST)/feed $(VALGRIND_STREAMS)); \
 	else $(call left_out,valgrind,that run of the host in C is left out); fi
 
 host-rust: $(ARCHIVE)
 	@$(call said,host-rust,$(CARGO) test $(CARGO_FLAGS) -p common -p mapcache)
+
+pieces: $(ARCHIVE)
+	@$(CARGO) run $(CARGO_FLAGS) -p mapcache --example pieces
 
 # The scenario that it shows to people, then random runs.
 host-thin: $(ARCHIVE) | $(HOST)

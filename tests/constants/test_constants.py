@@ -19,13 +19,18 @@ TOP = os.path.join(os.path.dirname(os.path.abspath(__file__)), "../..")
 HEADER = os.environ["HEADER"]
 
 # Which of the constants each place has. A place that stops having one, or comes to have another, belongs here.
-IN_HEADER = {"version", "default_small_ratio", "default_ghost_ratio", "store_bytes", "most", "most_request_bytes"}
+IN_HEADER = {
+    "version", "default_small_ratio", "default_ghost_ratio", "store_bytes", "most", "most_request_bytes", "carry_bytes",
+}
 # What the settings of capacity 100 come to, where a capacity alone stands for settings.
 DEFAULTS = {"settings_capacity", "settings_small_ratio", "settings_ghost_ratio"}
 IN_WRAPPER = IN_HEADER | {"max_freq"} | DEFAULTS
 IN_TOOL = IN_HEADER | {"max_freq", "settings_bytes"}
 IN_CALLS = {"store_bytes", "most_request_bytes"}
 IN_SIZES = {"most"}
+
+# The refusals that no recorded call comes to, since only a feed and a finish give them: host/c/feed.c has them.
+OF_PIECES = {17}
 
 C_PROGRAM = r"""
 #include "mapcache.h"
@@ -47,6 +52,7 @@ int main(void)
     printf("store_bytes %d\n", MAPCACHE_STORE_BYTES);
     printf("most %d\n", MAPCACHE_MOST);
     printf("most_request_bytes %d\n", MAPCACHE_MOST_REQUEST_BYTES);
+    printf("carry_bytes %d\n", MAPCACHE_CARRY_BYTES);
     printf("parts %d.%d\n", MAPCACHE_VERSION_MAJOR, MAPCACHE_VERSION_MINOR);
     return 0;
 }
@@ -125,12 +131,25 @@ class Constants(unittest.TestCase):
 
 
 class Refusals(unittest.TestCase):
-    """A number that is new stands in the header's table and enumeration, in the tool, and in the table of recorded calls."""
+    """A number that is new stands in the proved code, in the header's table and enumeration, in the order of some call there, in
+    the tool, and in the table of recorded calls or in the test of pieces."""
+
+    def test_header_has_those_of_the_proved_code(self):
+        code = read("crates/rules/src/lib.rt")
+        function = code[code.index("fn number("):code.index("fn detail(")]
+        proved = [int(number) for number in re.findall(r"^ +Turned::\w+(?:\(_\))? => (\d+),$", function, re.M)]
+        self.assertEqual(numbers_of_header(), proved)
+        self.assertEqual(proved, sorted(set(proved)))
 
     def test_header_lists_what_it_numbers(self):
         listed = [int(number) for number in re.findall(r"^ \* {3,4}(\d+)  ", read(HEADER), re.M)]
         self.assertEqual(listed, numbers_of_header())
-        self.assertEqual(listed, list(range(1, len(listed) + 1)))
+
+    def test_header_has_each_in_the_order_of_some_call(self):
+        orders = re.findall(r"^ \*   (mapcache_\w+) +(\d.*)$", read(HEADER), re.M)
+        self.assertEqual([call for call, _ in orders], re.findall(r"^int64_t (mapcache_\w+)\(", read(HEADER), re.M))
+        judged = {int(number) for _, order in orders for number in re.findall(r"\d+", order)}
+        self.assertEqual(judged, set(numbers_of_header()))
 
     def test_tool_explains_each_and_no_other(self):
         tool = read("tools/mapcache")
@@ -147,7 +166,9 @@ class Refusals(unittest.TestCase):
             at += 32 + given + wanted
             if kind >= 2:
                 met.add(number)
-        self.assertEqual(met, {0, *numbers_of_header()})
+        self.assertEqual(met, {0, *numbers_of_header()} - OF_PIECES)
+        for number in OF_PIECES:
+            self.assertRegex(read("host/c/feed.c"), rf"REFUSES\(.*, {number}, 0\);")
 
 
 if __name__ == "__main__":

@@ -158,7 +158,7 @@ class Explain(unittest.TestCase):
             cls.numbers = [int(number) for number in re.findall(r"^    MAPCACHE_\w+ = (\d+)", file.read(), re.M)]
 
     def test_every_refusal_of_the_header(self):
-        self.assertEqual(self.numbers, list(range(1, len(self.numbers) + 1)))
+        self.assertEqual(self.numbers, sorted(set(self.numbers)))
         texts = set()
         for refusal in self.numbers:
             status, text, _ = mapcache("explain", str(refusal))
@@ -171,10 +171,28 @@ class Explain(unittest.TestCase):
         self.assertIn(b"detail 28: the reply bytes", mapcache("explain", "10", "28")[1])
         self.assertIn(b"line 6 of the trace: get 1", mapcache("explain", "9", "18", "--trace", EXAMPLE)[1])
 
+    def test_what_concerns_streams(self):
+        self.assertIn(b"or in the whole stream", mapcache("explain", "9")[1].replace(b"\n", b" "))
+        self.assertIn(b"Lend 32 bytes, zero where a stream starts", mapcache("explain", "17")[1].replace(b"\n", b" "))
+        self.assertNotIn(b"detail 5", mapcache("explain", "17", "5")[1])
+
+    def test_the_manual_page_has_the_orders_of_the_header(self):
+        with open(os.environ["HEADER"], encoding="utf-8") as file:
+            of_header = dict(re.findall(r"^ \*   (mapcache_\w+) +(\d.*)$", file.read(), re.M))
+        with open(os.path.join(HERE, "../../man/mapcache.1.in"), encoding="utf-8") as file:
+            of_page = dict(re.findall(r'^\.BR (mapcache_\w+) " +(\d.*)"$', file.read(), re.M))
+        self.assertEqual(set(of_page), set(of_header))
+        for call, order in of_header.items():
+            # a new 9 comes after them all, and the page says so in words
+            self.assertEqual(re.findall(r"\d+", of_page[call]), re.findall(r"\d+", order.split(";")[0]), call)
+
     def test_no_such_refusal(self):
-        status, _, said = mapcache("explain", str(self.numbers[-1] + 1))
-        self.assertEqual(status, 1)
-        self.assertIn(f"numbered 1 to {self.numbers[-1]}", said)
+        others = set(range(self.numbers[-1] + 2)) - set(self.numbers)
+        self.assertTrue({0, 11, 16, 18} <= others)
+        for refusal in sorted(others):
+            status, _, said = mapcache("explain", str(refusal))
+            self.assertEqual(status, 1)
+            self.assertIn(f"there is no refusal {refusal}: they are numbered 1 to 10, 17", said)
 
 
 class Show(unittest.TestCase):

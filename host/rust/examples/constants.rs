@@ -1,7 +1,8 @@
 //! Prints the wrapper's constants, a name and a value to a line: tests/constants compares them with the proved code's.
 
 use mapcache::{
-    DEFAULT_GHOST_RATIO, DEFAULT_SMALL_RATIO, MAX_FREQ, MOST, MOST_REQUEST_BYTES, Settings, VERSION, store_bytes,
+    CARRY_BYTES, DEFAULT_GHOST_RATIO, DEFAULT_SMALL_RATIO, MAX_FREQ, MOST, MOST_REQUEST_BYTES, Settings, VERSION,
+    store_bytes,
 };
 
 fn main() {
@@ -12,6 +13,7 @@ fn main() {
     println!("store_bytes {}", store_bytes());
     println!("most {MOST}");
     println!("most_request_bytes {MOST_REQUEST_BYTES}");
+    println!("carry_bytes {CARRY_BYTES}");
     let settings = Settings::with_capacity(100);
     println!("settings_capacity {}", settings.capacity);
     println!("settings_small_ratio {}", settings.small_ratio.to_bits());

@@ -2,7 +2,7 @@
 
 use crate::answer::{Answer, Evicted, Inserted, Replies, strange};
 use crate::blocks::{GuestBlock, PhysicalBlock};
-use crate::call::{self, MOST_REQUEST_BYTES, Settings};
+use crate::call::{self, CARRY_BYTES, Fed, MOST_REQUEST_BYTES, Settings};
 use crate::refusal::Refusal;
 use crate::request::Request;
 
@@ -121,6 +121,16 @@ impl<S: AsMut<[u8]>> Cache<S> {
         }
         let written = call::run(self.store.as_mut(), &self.requests, &mut self.replies)?;
         Ok(&self.replies[..written])
+    }
+
+    /// What a feed of this piece answers, and its reply bytes. The buffer for them is as long as they may need.
+    pub(crate) fn feed(&mut self, carry: &mut [u8; CARRY_BYTES], piece: &[u8]) -> (Fed, &[u8]) {
+        let room = call::feed_room(piece.len());
+        if self.replies.len() < room {
+            self.replies.resize(room, 0);
+        }
+        let fed = call::feed(self.store.as_mut(), carry, piece, &mut self.replies);
+        (fed, &self.replies[..fed.replied])
     }
 }
 

@@ -1,6 +1,7 @@
 //! The library's calls over slices. This file alone has unsafe code.
 
 use crate::ffi;
+use crate::record;
 use crate::refusal::Refusal;
 use std::fmt;
 
@@ -12,6 +13,15 @@ pub const MOST: u64 = 1024;
 
 /// The most request bytes that one call takes.
 pub const MOST_REQUEST_BYTES: usize = 32_768;
+
+/// The bytes of what one feed of a stream carries to the next. A new stream starts with as many zeros.
+pub const CARRY_BYTES: usize = 32;
+
+/// The most bytes of a cut record that are carried.
+const MOST_KEPT: usize = record::LONGEST - 1;
+
+/// The most reply bytes for each byte of requests: an eviction has 2, and a reply room of 36.
+const MOST_REPLY_BYTES_TO_ONE: usize = 18;
 
 /// Small's limit as a part of the capacity, where nothing else is asked for.
 pub const DEFAULT_SMALL_RATIO: f64 = 0.1;
@@ -95,4 +105,69 @@ pub fn run(store: &mut [u8], requests: &[u8], replies: &mut [u8]) -> Result<usiz
         )
     };
     usize::try_from(answer).map_err(|_| Refusal::of(answer.unsigned_abs(), detail))
+}
+
+/// What a feed of bytes answered.
+#[derive(Clone, Copy, Debug, PartialEq, Eq, Hash)]
+#[must_use = "its replies may name pairs that are in the cache no more, also where it is refused"]
+pub struct Fed {
+    /// How many reply bytes were written. They count where the feed is refused too: with a new
+    /// [`BadRecord`](Refusal::BadRecord) they answer the requests before the unknown mark.
+    pub replied: usize,
+    /// Why it was turned away, if it was.
+    pub refused: Option<Refusal>,
+}
+
+/// The reply room that always suffices for a piece of so many bytes.
+#[must_use]
+pub const fn feed_room(piece_bytes: usize) -> usize {
+    MOST_REPLY_BYTES_TO_ONE * (piece_bytes + MOST_KEPT)
+}
+
+/// Takes the next piece of a stream: the requests that it completes are carried out, and a record that is cut is kept in the
+/// carry, [`CARRY_BYTES`] bytes that are zero where the stream starts. [`Stream`](crate::Stream) does the same with typed
+/// answers.
+///
+/// # Panics
+///
+/// Where the library refuses with a number that this crate does not know: it is of another version.
+#[allow(unsafe_code)]
+pub fn feed(store: &mut [u8], carry: &mut [u8], piece: &[u8], replies: &mut [u8]) -> Fed {
+    let (mut replied, mut detail) = (0, 0);
+    // SAFETY: slices' pointers are not null, also at length 0, and good for their lengths; `&mut` and `&` borrowed
+    // together mean that the buffers do not overlap and that no other thread changes them; `replied` and `detail` are our
+    // own, and each a `u64`.
+    let answer = unsafe {
+        ffi::mapcache_feed(
+            store.as_mut_ptr(),
+            store.len(),
+            carry.as_mut_ptr(),
+            carry.len(),
+            piece.as_ptr(),
+            piece.len(),
+            replies.as_mut_ptr(),
+            replies.len(),
+            &mut replied,
+            &mut detail,
+        )
+    };
+    let refused = (answer < 0).then(|| Refusal::of(answer.unsigned_abs(), detail));
+    Fed { replied: usize::try_from(replied).expect("the library is for machines of 64 bits"), refused }
+}
+
+/// Whether a stream may end here: with a whole record, and not stopped. Nothing changes.
+///
+/// # Panics
+///
+/// Where the library refuses with a number that this crate does not know: it is of another version.
+#[allow(unsafe_code)]
+pub fn finish(carry: &[u8]) -> Result<(), Refusal> {
+    let mut detail = 0;
+    // SAFETY: a slice's pointer is not null and good for its length; `&` means that no one changes it; `detail` is our own,
+    // and a `u64`.
+    let answer = unsafe { ffi::mapcache_finish(carry.as_ptr(), carry.len(), &mut detail) };
+    match answer {
+        0 => Ok(()),
+        refused => Err(Refusal::of(refused.unsigned_abs(), detail)),
+    }
 }

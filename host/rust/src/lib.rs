@@ -2,8 +2,9 @@
 //!
 //! A cache maps guest blocks to physical blocks (S3-FIFO), in memory that the host lends. The library underneath,
 //! `libmapcache.a`, is proved to follow its rules for every input under five assumptions: no pointer is null, lengths
-//! are true, the refusal's detail is aligned as a `u64` is, the buffers do not overlap, and no other thread uses them
-//! meanwhile. Here they cannot be broken: slices give the first two, the detail is a `u64`, and `&mut` gives the others.
+//! are true, the numbers that a call writes are aligned as a `u64` is, the buffers do not overlap, and no other thread uses
+//! them meanwhile. Here they cannot be broken: slices give the first two, those numbers are `u64`s, and `&mut` gives the
+//! others.
 //!
 //! ```
 //! use mapcache::{Cache, GuestBlock, Inserted, Pair, PhysicalBlock, Queue, Left, Settings};
@@ -20,6 +21,8 @@
 //! assert_eq!(cache.get(GuestBlock(8))?, Some(PhysicalBlock(80)));
 //! # Ok::<(), mapcache::Refusal>(())
 //! ```
+//!
+//! Where requests come as bytes through a pipe that cuts anywhere, a [`Stream`] takes them as they come.
 //!
 //! A guest block and a physical block are different kinds of number, so they cannot be mixed up:
 //!
@@ -48,14 +51,16 @@ mod record;
 mod refusal;
 mod reply;
 mod request;
+mod stream;
 
 pub use answer::{Answer, Evicted, Inserted};
 pub use blocks::{GuestBlock, Left, Pair, PhysicalBlock, Queue};
 pub use cache::{Cache, in_calls};
 pub use call::{
-    DEFAULT_GHOST_RATIO, DEFAULT_SMALL_RATIO, MAX_FREQ, MOST, MOST_REQUEST_BYTES, Settings, VERSION, create, run,
-    store_bytes,
+    CARRY_BYTES, DEFAULT_GHOST_RATIO, DEFAULT_SMALL_RATIO, Fed, MAX_FREQ, MOST, MOST_REQUEST_BYTES, Settings, VERSION,
+    create, feed, feed_room, finish, run, store_bytes,
 };
 pub use refusal::Refusal;
 pub use reply::Reply;
 pub use request::Request;
+pub use stream::{Answered, Broken, Stream, StreamError};

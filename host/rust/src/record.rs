@@ -1,7 +1,7 @@
 //! Records as bytes: a mark of two letters, then numbers of 8 bytes, least significant first.
 
 /// The length of the longest record: a mark and two numbers.
-const LONGEST: usize = 18;
+pub(crate) const LONGEST: usize = 18;
 
 /// Appends a record in one piece.
 #[inline]

@@ -3,7 +3,8 @@
 use std::error::Error;
 use std::fmt;
 
-/// Why a call was turned away. A call that is refused has changed nothing. More reasons may come with a later version.
+/// Why a call was turned away. A call that is refused has changed nothing, but for a feed that meets an unknown mark
+/// ([`BadRecord`](Refusal::BadRecord)): it has carried out the requests before it. More reasons may come with a later version.
 #[derive(Clone, Copy, Debug, PartialEq, Eq, Hash)]
 #[non_exhaustive]
 #[must_use]
@@ -22,9 +23,9 @@ pub enum Refusal {
     StoreShort,
     /// 7: the store is damaged.
     StoreDamaged,
-    /// 8: the requests are longer than 32,768 bytes.
+    /// 8: the requests, or the piece of a stream, are longer than 32,768 bytes.
     RequestsLong,
-    /// 9: the record at this offset of the requests has an unknown mark, or is cut short.
+    /// 9: the record at this offset of the requests, or of the whole stream, has an unknown mark, or is cut short.
     BadRecord {
         /// Where the record starts.
         offset: u64,
@@ -34,6 +35,8 @@ pub enum Refusal {
         /// The sum of the requests' reply rooms.
         needed: u64,
     },
+    /// 17: what is carried is none that a feed leaves, or the piece ends past offset 2^64-1 of its stream.
+    BadCarry,
 }
 
 impl Refusal {
@@ -51,6 +54,7 @@ impl Refusal {
             8 => Refusal::RequestsLong,
             9 => Refusal::BadRecord { offset: detail },
             10 => Refusal::RepliesShort { needed: detail },
+            17 => Refusal::BadCarry,
             _ => panic!("the library linked is not the one that this crate is for: it refuses with {number}"),
         }
     }
@@ -69,6 +73,7 @@ impl Refusal {
             Refusal::RequestsLong => 8,
             Refusal::BadRecord { .. } => 9,
             Refusal::RepliesShort { .. } => 10,
+            Refusal::BadCarry => 17,
         }
     }
 
@@ -98,6 +103,7 @@ impl fmt::Display for Refusal {
             Refusal::RepliesShort { needed } => {
                 write!(f, "the replies may need {needed} bytes, and there is less room")
             },
+            Refusal::BadCarry => write!(f, "what is carried is none that a feed leaves, or the stream grows too long"),
         }?;
         write!(f, " (refusal {})", self.number())
     }
@@ -109,11 +115,12 @@ impl Error for Refusal {}
 mod tests {
     use super::Refusal;
 
-    const LAST: u64 = 10;
+    /// The numbers that this crate knows; those between are of no call yet.
+    const KNOWN: [u64; 11] = [1, 2, 3, 4, 5, 6, 7, 8, 9, 10, 17];
 
     #[test]
     fn every_number_is_that_of_its_refusal() {
-        for number in 1..=LAST {
+        for number in KNOWN {
             let refusal = Refusal::of(number, 28);
             assert_eq!(u64::from(refusal.number()), number);
             assert!([0, 28].contains(&refusal.detail()), "{refusal:?}");
@@ -124,6 +131,6 @@ mod tests {
     #[test]
     #[should_panic = "it refuses with"]
     fn a_number_of_another_version_is_not_taken_for_one_of_ours() {
-        let _ = Refusal::of(LAST + 1, 0);
+        let _ = Refusal::of(11, 0);
     }
 }

@@ -15,7 +15,7 @@ use Rattle.rules.specs.Parts.{bit}
 use Rattle.rules.specs.Bytes.{bytesOf}
 use Rattle.rules.specs.Carry.{Carry, couldLeave, carryBytes, keptRoom, carryWritten, CarryAs}
 use Rattle.rules.proofs.CarryLaws.{could-few, carry-length}
-use Rattle.carry.specs.Carries.{keptIn, LaidOut, FormOf, Put}
+use Rattle.carry.specs.Carries.{keptIn, LaidOut, FormOf, CarryPut}
 
 -- ---- laid out over zeros
 
@@ -77,12 +77,12 @@ module _ (o : ℕ) (t : Bool) (from : List ℕ) (at : ℕ) where
 
 -- the record's form copied over their first bytes
 pub put-front : {c : Carry} {form before after : List ℕ} → LaidOut c form → length form ≡ carryBytes
-    → after ≡ take (length form) form ++ drop (length form) before → Put before c after
+    → after ≡ take (length form) form ++ drop (length form) before → CarryPut before c after
 put-front {c} {form} {before} l n e =
     record { is = e ∙ ap₂ (λ (x y : List ℕ). x ++ y) (take-length form ∙ l .is) (ap (λ (k : ℕ). drop k before) n) }
 
 -- what was put is read: a record that a feed could have left is what the bytes lent carry from then on
-pub put-carried : {before after : List ℕ} {c : Carry} → Put before c after → carryBytes ≤ length before → couldLeave c ≡ true → CarryAs after c
+pub put-carried : {before after : List ℕ} {c : Carry} → CarryPut before c after → carryBytes ≤ length before → couldLeave c ≡ true → CarryAs after c
 put-carried {before} {after} {c} p h l =
     let n : length (carryWritten c) ≡ carryBytes = carry-length c (omega (arith, could-few c l)) in
     let all = ap length (p .is) ∙ length-append (carryWritten c) (drop carryBytes before) in

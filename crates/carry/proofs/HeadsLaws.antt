@@ -21,7 +21,7 @@ use Rattle.wire.specs.Wire.{asked, meaning}
 use Rattle.carry.specs.declared.Head.the-variants.{Whole, Cut, Unknown}
 use Rattle.carry.specs.Carries.{mostKept, headBytes, keptIn}
 use Rattle.carry.proofs.FormLaws.{kept-part}
-use Rattle.carry.specs.Heads.{Completes, StillCut, Joins, HeadFilled, Lesser}
+use Rattle.carry.specs.Heads.{Completes, StillCut, HeadJoins, HeadFilled, Lesser}
 
 -- ---- the buffer
 
@@ -98,21 +98,21 @@ module _ (bs piece head : List ℕ) (count m : ℕ) (long : carryBytes ≤ lengt
 
 module _ {kept piece head : List ℕ} where
   -- each answer says one thing
-  whole-joins : (n : ℕ) → Completes kept piece head n → Joins kept piece head (Whole n)
+  whole-joins : (n : ℕ) → Completes kept piece head n → HeadJoins kept piece head (Whole n)
   whole-joins n c = record {
     whole = λ m e. let q : n ≡ m = cc in subst (Completes kept piece head) q c;
     cut = λ m e. let z : _≡_ {A = ℕ} 0 1 = cc in absurd (omega arith);
     unknown = λ e. let z : _≡_ {A = ℕ} 0 1 = cc in absurd (omega arith);
   }
 
-  cut-joins : (n : ℕ) → StillCut kept piece head n → Joins kept piece head (Cut n)
+  cut-joins : (n : ℕ) → StillCut kept piece head n → HeadJoins kept piece head (Cut n)
   cut-joins n c = record {
     whole = λ m e. let z : _≡_ {A = ℕ} 0 1 = cc in absurd (omega arith);
     cut = λ m e. let q : n ≡ m = cc in subst (StillCut kept piece head) q c;
     unknown = λ e. let z : _≡_ {A = ℕ} 0 1 = cc in absurd (omega arith);
   }
 
-  unknown-joins : parse (kept ++ piece) ≡ ends (unknownAt 0) → Joins kept piece head Unknown
+  unknown-joins : parse (kept ++ piece) ≡ ends (unknownAt 0) → HeadJoins kept piece head Unknown
   unknown-joins c = record {
     whole = λ m e. let z : _≡_ {A = ℕ} 0 1 = cc in absurd (omega arith);
     cut = λ m e. let z : _≡_ {A = ℕ} 0 1 = cc in absurd (omega arith);
@@ -131,8 +131,8 @@ none-completes piece head = record {
 }
 
 -- the answer then
-pub joins-none : (bs piece head : List ℕ) (count : ℕ) → count ≡ 0 → Joins (keptIn bs count) piece head (Whole 0)
-joins-none bs piece head count e = subst (λ (n : ℕ). Joins (keptIn bs n) piece head (Whole 0)) (sym e) (whole-joins 0 (none-completes piece head))
+pub joins-none : (bs piece head : List ℕ) (count : ℕ) → count ≡ 0 → HeadJoins (keptIn bs count) piece head (Whole 0)
+joins-none bs piece head count e = subst (λ (n : ℕ). HeadJoins (keptIn bs n) piece head (Whole 0)) (sym e) (whole-joins 0 (none-completes piece head))
 
 module _ {kept piece head : List ℕ} {n : ℕ} (f : HeadFilled kept piece head n) (r : Record) (e : meaning r ≡ readAt (take (n - 0) head) 0) where
   -- what was read of the first bytes of all
@@ -160,10 +160,10 @@ module _ {kept piece head : List ℕ} {n : ℕ} (f : HeadFilled kept piece head 
       }
 
   -- the four answers, by what was read
-  pub joins-whole : waits (spotAt kept 0) ≡ true → {q : Request·} {after : ℕ} → r ≡ Ask q after → Joins kept piece head (Whole after)
+  pub joins-whole : waits (spotAt kept 0) ≡ true → {q : Request·} {after : ℕ} → r ≡ Ask q after → HeadJoins kept piece head (Whole after)
   joins-whole w {q} {after} g = whole-joins after (completes w (asked q) after (front ∙ ap meaning g))
 
-  pub joins-cut : r ≡ Cut· → Joins kept piece head (Cut n)
+  pub joins-cut : r ≡ Cut· → HeadJoins kept piece head (Cut n)
   joins-cut g =
       let a : readAt (take n (kept ++ piece)) 0 ≡ short = front ∙ ap meaning g in
       let few : n < headBytes = omega (arith, short-few (take n (kept ++ piece)) a, front-length) in
@@ -175,7 +175,7 @@ module _ {kept piece head : List ℕ} {n : ℕ} (f : HeadFilled kept piece head 
         cut = short-parse (kept ++ piece) (ap (λ (l : List ℕ). readAt l 0) (sym all) ∙ a);
       })
 
-  pub joins-unknown : r ≡ Unknown· → Joins kept piece head Unknown
+  pub joins-unknown : r ≡ Unknown· → HeadJoins kept piece head Unknown
   joins-unknown g = unknown-joins (strange-parse (kept ++ piece) (front-read n (kept ++ piece) strange (front ∙ ap meaning g) tt))
 
   -- nothing is read only where nothing was kept
@@ -185,6 +185,6 @@ module _ {kept piece head : List ℕ} {n : ℕ} (f : HeadFilled kept piece head 
 -- and where bytes were kept there is something to read
 pub joins-end : (bs : List ℕ) (count : ℕ) {piece head : List ℕ} {n : ℕ} → HeadFilled (keptIn bs count) piece head n
     → (r : Record) → meaning r ≡ readAt (take (n - 0) head) 0
-    → carryBytes ≤ length bs → count ≤ mostKept → (count ≡ 0 → ⊥) → r ≡ End → Joins (keptIn bs count) piece head (Whole 0)
+    → carryBytes ≤ length bs → count ≤ mostKept → (count ≡ 0 → ⊥) → r ≡ End → HeadJoins (keptIn bs count) piece head (Whole 0)
 joins-end bs count f r e long few some g =
     absurd (some (omega (arith, none-kept f r e g, length-take-le count (drop 10 bs) (omega (arith, length-drop 10 bs)))))

@@ -33,7 +33,7 @@ pub record Brings (bs : List ℕ) (r : Brought) : Type 0 where
   pub is : ReadsCarry bs (carriedBy bs r)
 
 -- the record c stands in front, and the surplus stayed
-pub record Put (before : List ℕ) (c : Carry) (after : List ℕ) : Type 0 where
+pub record CarryPut (before : List ℕ) (c : Carry) (after : List ℕ) : Type 0 where
   pub is : after ≡ carryWritten c ++ drop carryBytes before
 
 -- ---- what the parts of `put` and `read` promise

@@ -25,7 +25,7 @@ pub record StillCut (kept piece head : List ℕ) (n : ℕ) : Type 0 where
   pub all : take n head ≡ kept ++ piece
   pub cut : parse (kept ++ piece) ≡ ends (cutAt 0)
 
-pub record Joins (kept piece head : List ℕ) (r : Head) : Type 0 where
+pub record HeadJoins (kept piece head : List ℕ) (r : Head) : Type 0 where
   pub whole : (n : ℕ) → r ≡ Whole n → Completes kept piece head n
   pub cut : (n : ℕ) → r ≡ Cut n → StillCut kept piece head n
   pub unknown : r ≡ Unknown → parse (kept ++ piece) ≡ ends (unknownAt 0)

@@ -7,8 +7,8 @@ ghost use lib.ListN.{length, drop, replicate};
 ghost use Rattle.cells.specs.Decides.{Decides};
 ghost use Rattle.rules.specs.Bytes.{spotAt};
 ghost use Rattle.rules.specs.Carry.{waits, carryBytes, keptRoom};
-ghost use Rattle.carry.specs.Carries.{mostKept, headBytes, keptIn, LaidOut, FormOf, Halts, GoesOn, Brings, Put};
-ghost use Rattle.carry.specs.Heads.{Lesser, HeadFilled, Joins};
+ghost use Rattle.carry.specs.Carries.{mostKept, headBytes, keptIn, LaidOut, FormOf, Halts, GoesOn, Brings, CarryPut};
+ghost use Rattle.carry.specs.Heads.{Lesser, HeadFilled, HeadJoins};
 use wire::Record;
 
 // Where the number of bytes kept stands, the byte that says whether the stream has stopped, and the first of the bytes kept. The offset is in front.
@@ -57,7 +57,7 @@ fn lay_out(form: &mut [u8], offset: u64, stopped: bool, from: &[u8], at: usize)
 // Writes the record. The bytes kept are those of `from` from `at` on.
 pub fn put(carry: &mut [u8], offset: u64, stopped: bool, from: &[u8], at: usize)
     requires { ⌜ (carryBytes ≤ length (now carry)) × (at ≤ length (now from)) × (length (now from) ≤ at + keptRoom) ⌝ }
-    ensures { λ _. ⌜ Put (now (carry .entry)) (record { offset = offset; kept = drop at (now (from .entry)); stopped = stopped }) (now (carry .exit)) ⌝ }
+    ensures { λ _. ⌜ CarryPut (now (carry .entry)) (record { offset = offset; kept = drop at (now (from .entry)); stopped = stopped }) (now (carry .exit)) ⌝ }
 {
     let mut form = [0u8; rules::CARRY_BYTES];
     lay_out(&mut form, offset, stopped, from, at);
@@ -161,7 +161,7 @@ fn fill_head(carry: &[u8], count: usize, piece: &[u8], head: &mut [u8]) -> usize
 pub fn join(carry: &[u8], count: usize, piece: &[u8], head: &mut [u8]) -> Head
     requires { ⌜ (carryBytes ≤ length (now carry)) × (count ≤ mostKept) × (waits (spotAt (keptIn (now carry) count) 0) ≡ true)
         × (length (now head) ≡ headBytes) ⌝ }
-    ensures { λ r. ⌜ Joins (keptIn (now (carry .entry)) count) (now (piece .entry)) (now (head .exit)) r ⌝ }
+    ensures { λ r. ⌜ HeadJoins (keptIn (now (carry .entry)) count) (now (piece .entry)) (now (head .exit)) r ⌝ }
 {
     if count == 0 {
         return Head::Whole(0);

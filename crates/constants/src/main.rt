@@ -26,6 +26,7 @@ fn main() {
     line(b"store_bytes ", S3FifoCache::STORE_BYTES as u64);
     line(b"most ", rules::MOST);
     line(b"most_request_bytes ", rules::MOST_REQUEST_BYTES as u64);
+    line(b"carry_bytes ", S3FifoCache::CARRY_BYTES as u64);
     line(b"settings_bytes ", sizing::SETTINGS_BYTES as u64);
     let settings = S3FifoCache::settings(100);
     line(b"settings_capacity ", settings.capacity);

@@ -12,7 +12,7 @@ use Rattle.rules.specs.Refusals.{numberOf}
 use Rattle.s3_fifo.specs.declared.Fed.{Fed}
 use Rattle.s3_fifo.specs.declared.Finish.{Finish}
 use Rattle.s3_fifo.specs.Calls.{Said, gave, halted, turned, createdSays, ranSays, Created, Called}
-use Rattle.s3_fifo.specs.Feeds.{fedSays, finishSays, repliesIn, FedAs, Finished}
+use Rattle.s3_fifo.specs.Feeds.{fedSays, finishSays, repliesIn, FedAs, FinishAs}
 
 -- the reply bytes, or minus the refusal's number; a stream that stops gives that of a bad record
 abbrev pub codeOf : Said → ℤ
@@ -56,6 +56,6 @@ pub record FedWith (s c q p : List ℕ) (code : ℤ) (replied detail : ℕ) (s�
 -- a finish, as a number and a detail
 pub record FinishedWith (c : List ℕ) (code : ℤ) (detail : ℕ) : Type 0 where
   pub answer : Finish
-  pub finished : Finished c answer
+  pub finished : FinishAs c answer
   pub code-is : code ≡ codeOf (finishSays answer)
   pub detail-is : detail ≡ detailIn (finishSays answer)

@@ -10,7 +10,7 @@ use Rattle.rules.specs.State.{State}
 use Rattle.rules.specs.Refusals.{mostRequestBytes}
 use Rattle.rules.specs.Verdict.{Verdict, refused, done, create, call, onAsked}
 use Rattle.wire.specs.Wire.{Wrote}
-use Rattle.s3_fifo.specs.Calls.{Said, gave, turned}
+use Rattle.s3_fifo.specs.Calls.{Said, gave, halted, turned}
 
 -- the record of a refusal: NO, the number in one byte, the detail in 8
 abbrev pub noRecord : ℕ → ℕ → List ℕ
@@ -46,7 +46,8 @@ writtenFor s = outputFor (take mostInput s) replyRoom
 
 -- ---- the steps to it
 
--- after a call: its replies stand already, and a refusal is written over what was there
+-- after a call: its replies stand already, and a refusal is written over what was there; it stops no stream
 abbrev pub Finished : Said → List ℕ → List ℕ → ℕ → Type 0
 Finished (gave n) p p′ r = (r ≡ n) × (p′ ≡ p)
+Finished (halted n d) p p′ r = ⊥
 Finished (turned n d) p p′ r = Wrote p 0 (noRecord n d) p′ r

@@ -126,3 +126,18 @@ lent s c q p s′ c′ p′ a g (reads σ) (carries k) l = record { state = σ; 
 
 pub goes-lent : {s c q p s′ c′ p′ : List ℕ} (r : Fed) (f : FedAs s c q p r s′ c′ p′) → Goes (fedSays r) → Lent (f .store) (f .carry)
 goes-lent {s} {c} {q} {p} {s′} {c′} {p′} r f g = lent s c q p s′ c′ p′ (fedSays r) g (f .store) (f .carry) (f .leaves)
+
+-- ---- what it left is sound, and its record is none that is refused
+
+after : {s c q p s′ c′ p′ : List ℕ} (r : Fed) (f : FedAs s c q p r s′ c′ p′) (g : Goes (fedSays r)) → let l = goes-lent r f g in
+    Onwards s c (l .state) (l .carry) q (repliesIn (fedSays r)) s′ c′ p′
+after {s} {c} r f g =
+    let l = goes-lent r f g in
+    let y : ReadsAs s (reads (l .state)) = subst (ReadsAs s) (l .store-is) (f .store-is) in
+    goes-on r (y .1) (y .0) (subst (ReadsCarry c) (l .carry-is) (f .carry-is)) f g
+
+pub fed-intact : {s c q p s′ c′ p′ : List ℕ} (r : Fed) → FedAs s c q p r s′ c′ p′ → Goes (fedSays r) → ReadsAs s′ damaged → ⊥
+fed-intact {q = q} r f g d = let l = goes-lent r f g in d .1 (feedOn (l .state) (l .carry) q .state) (after r f g .went .holds)
+
+pub fed-fit : {s c q p s′ c′ p′ : List ℕ} (r : Fed) → FedAs s c q p r s′ c′ p′ → Goes (fedSays r) → ReadsCarry c′ unfit → ⊥
+fed-fit {q = q} r f g d = let l = goes-lent r f g in d (feedOn (l .state) (l .carry) q .carry) (after r f g .next)

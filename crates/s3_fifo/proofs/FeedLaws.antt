@@ -35,8 +35,8 @@ use Rattle.carry.specs.declared.Brought.{Brought}
 use Rattle.carry.specs.declared.Brought.the-variants.{Going, Stopped as Halted, Unfit}
 use Rattle.carry.specs.declared.Head.{Head}
 use Rattle.carry.specs.declared.Head.the-variants.{Whole, Cut, Unknown}
-use Rattle.carry.specs.Carries.{headBytes, mostKept, keptIn, carriedBy, Brings, Put}
-use Rattle.carry.specs.Heads.{Completes, StillCut, Joins}
+use Rattle.carry.specs.Carries.{headBytes, mostKept, keptIn, carriedBy, Brings, CarryPut}
+use Rattle.carry.specs.Heads.{Completes, StillCut, HeadJoins}
 use Rattle.carry.proofs.CarriesLaws.{going-kept, going-ends}
 use Rattle.store.specs.Holds.{stateIn, shapeFor, Held}
 use Rattle.store.proofs.HoldsLaws.{held-holds, limits-shown}
@@ -48,7 +48,7 @@ use Rattle.s3_fifo.specs.declared.Fed.the-variants.{Done, Stopped, Refus
 use Rattle.s3_fifo.specs.declared.Finish.the-variants.{Complete, Refused as Broken}
 use Rattle.s3_fifo.specs.Runs.{Runs, FedRan, FedBy, FedOn}
 use Rattle.s3_fifo.specs.Calls.{gave, halted, turned, Settled}
-use Rattle.s3_fifo.specs.Feeds.{FedAs, finishedAs, Finished}
+use Rattle.s3_fifo.specs.Feeds.{FedAs, verdictSays, FinishAs}
 use Rattle.s3_fifo.proofs.RunLaws.{splice-none, runs-room, runs-runs}
 
 -- ---- what stands in front of a piece, and the piece from an offset on
@@ -94,7 +94,7 @@ module _ (head piece : List ℕ) (from : ℕ) {v w : Survey} (g : v ≡ surveyed
 
       module _ {s₂ p₂ : List ℕ} {n : ℕ} (b : Runs z s₁ s₂ (parseFrom piece from .requests) p₁ p₂ m n) where
         -- all was carried out
-        whole-ran : {c c′ : List ℕ} (k : Carry) → Put c k c′ → FedRan z s s₂ c c′ p p₂ both k n
+        whole-ran : {c c′ : List ℕ} (k : Carry) → CarryPut c k c′ → FedRan z s s₂ c c′ p p₂ both k n
         unfolding parse
         whole-ran k u = record { runs = runs-runs a b all-room; room = omega (arith, rooms); put = u .is }
 
@@ -170,27 +170,27 @@ module _ {head piece : List ℕ} {from : ℕ} {v w : Survey} (g : v ≡ surveyed
     (h : w ≡ surveyed (length piece) (parseFrom piece from)) {t : Stop} (is : t ≡ w .stop) {p : List ℕ} (enough : v .room + w .room ≤ length p)
     {z : Shape} {s s₁ p₁ : List ℕ} {m : ℕ} (a : Runs z s s₁ (parseFrom head 0 .requests) p p₁ 0 m)
     {s₂ p₂ : List ℕ} {n : ℕ} (b : Runs z s₁ s₂ (parseFrom piece from .requests) p₁ p₂ m n) (base : ℕ) {c c′ : List ℕ} where
-  ran : {k l : Carry} → k ≡ l → Put c k c′ → FedRan z s s₂ c c′ p p₂ (parse head .requests ++ parseFrom piece from .requests) l n
-  ran {k} {l} q u = whole-ran head piece from g h enough a b l (subst (λ (x : Carry). Put c x c′) q u)
+  ran : {k l : Carry} → k ≡ l → CarryPut c k c′ → FedRan z s s₂ c c′ p p₂ (parse head .requests ++ parseFrom piece from .requests) l n
+  ran {k} {l} q u = whole-ran head piece from g h enough a b l (subst (λ (x : Carry). CarryPut c x c′) q u)
 
-  pub whole-stopped : t ≡ Strange → Put c (record { offset = base + w .at; kept = drop (length piece) piece; stopped = true }) c′
+  pub whole-stopped : t ≡ Strange → CarryPut c (record { offset = base + w .at; kept = drop (length piece) piece; stopped = true }) c′
       → FedOn z s s₂ c c′ p p₂ (parse head .requests ++ parseFrom piece from .requests) (leftBy base piece (parseFrom piece from .end)) (Stopped n (base + w .at))
   whole-stopped k u =
       let q = left-strange piece from h is k base in
       record { fed = (ap (λ (x : Carry). x .stopped) (sym q), ap (λ (x : Carry). x .offset) (sym q), ran q u) }
 
-  pub whole-cut : t ≡ Short → Put c (record { offset = base + w .at; kept = drop (w .at) piece; stopped = false }) c′
+  pub whole-cut : t ≡ Short → CarryPut c (record { offset = base + w .at; kept = drop (w .at) piece; stopped = false }) c′
       → FedOn z s s₂ c c′ p p₂ (parse head .requests ++ parseFrom piece from .requests) (leftBy base piece (parseFrom piece from .end)) (Done n)
   whole-cut k u = let q = left-cut piece from h is k base in record { fed = (ap (λ (x : Carry). x .stopped) (sym q), ran q u) }
 
-  pub whole-done : t ≡ All → Put c (record { offset = base + w .at; kept = drop (w .at) piece; stopped = false }) c′
+  pub whole-done : t ≡ All → CarryPut c (record { offset = base + w .at; kept = drop (w .at) piece; stopped = false }) c′
       → FedOn z s s₂ c c′ p p₂ (parse head .requests ++ parseFrom piece from .requests) (leftBy base piece (parseFrom piece from .end)) (Done n)
   whole-done k u = let q = left-whole piece from h is k base in record { fed = (ap (λ (x : Carry). x .stopped) (sym q), ran q u) }
 
 -- ---- the answers of `feed_going`
 
 -- no request was carried out
-none-ran : {z : Shape} {s p c c′ : List ℕ} {k : Carry} → Held z s → Put c k c′ → FedRan z s s c c′ p p [] k 0
+none-ran : {z : Shape} {s p c c′ : List ℕ} {k : Carry} → Held z s → CarryPut c k c′ → FedRan z s s c c′ p p [] k 0
 unfolding run encodeAll roomFor
 none-ran {p = p} h u =
     record {
@@ -206,7 +206,7 @@ none-ran {p = p} h u =
       put = u .is;
     }
 
-module _ {bs : List ℕ} {o n : ℕ} (b : Brings bs (Going o n)) {piece head : List ℕ} {r : Head} (j : Joins (keptIn bs n) piece head r) where
+module _ {bs : List ℕ} {o n : ℕ} (b : Brings bs (Going o n)) {piece head : List ℕ} {r : Head} (j : HeadJoins (keptIn bs n) piece head r) where
   abbrev all : List ℕ
   all = keptIn bs n ++ piece
 
@@ -218,7 +218,7 @@ module _ {bs : List ℕ} {o n : ℕ} (b : Brings bs (Going o n)) {piece head : L
     pub cut-few : length (take (m - 0) head) ≤ 0 + keptRoom
     cut-few = let f = j .cut m is .few in omega (arith, length-take (m - 0) head)
 
-    pub going-cut : {z : Shape} {s p bs′ : List ℕ} → Held z s → Put bs (record { offset = o; kept = drop 0 (take (m - 0) head); stopped = false }) bs′
+    pub going-cut : {z : Shape} {s p bs′ : List ℕ} → Held z s → CarryPut bs (record { offset = o; kept = drop 0 (take (m - 0) head); stopped = false }) bs′
         → FedOn z s s bs bs′ p p (parse all .requests) (leftBy o all (parse all .end)) (Done 0)
     going-cut {z} {s} {p} {bs′} h u =
         let c = j .cut m is in
@@ -226,17 +226,17 @@ module _ {bs : List ℕ} {o n : ℕ} (b : Brings bs (Going o n)) {piece head : L
         let q : record { offset = o; kept = take (m - 0) head; stopped = false } ≡ leftBy o all (cutAt 0) =
         ap₂ (λ (i : ℕ) (x : List ℕ). record { offset = i; kept = x; stopped = false }) (sym (add-zero o)) l in
         subst (λ (x : Parsed Request). FedOn z s s bs bs′ p p (x .requests) (leftBy o all (x .end)) (Done 0)) (sym (c .cut))
-        (record { fed = (refl, none-ran h (subst (λ (x : Carry). Put bs x bs′) q u)) })
+        (record { fed = (refl, none-ran h (subst (λ (x : Carry). CarryPut bs x bs′) q u)) })
 
   -- a mark that is none
   pub going-unknown : r ≡ Unknown → {z : Shape} {s p bs′ : List ℕ} → Held z s
-      → Put bs (record { offset = o; kept = drop (length piece) piece; stopped = true }) bs′
+      → CarryPut bs (record { offset = o; kept = drop (length piece) piece; stopped = true }) bs′
       → FedOn z s s bs bs′ p p (parse all .requests) (leftBy o all (parse all .end)) (Stopped 0 o)
   going-unknown is {z} {s} {p} {bs′} h u =
       let q : record { offset = o; kept = drop (length piece) piece; stopped = true } ≡ leftBy o all (unknownAt 0) =
       ap₂ (λ (i : ℕ) (x : List ℕ). record { offset = i; kept = x; stopped = true }) (sym (add-zero o)) (drop-of-length-le piece (omega arith)) in
       subst (λ (x : Parsed Request). FedOn z s s bs bs′ p p (x .requests) (leftBy o all (x .end)) (Stopped 0 o)) (sym (j .unknown is))
-      (record { fed = (refl, add-zero o, none-ran h (subst (λ (x : Carry). Put bs x bs′) q u)) })
+      (record { fed = (refl, add-zero o, none-ran h (subst (λ (x : Carry). CarryPut bs x bs′) q u)) })
 
   -- a whole record, or nothing, and the rest of the piece
   module _ {m : ℕ} (is : r ≡ Whole m) where
@@ -244,17 +244,17 @@ module _ {bs : List ℕ} {o n : ℕ} (b : Brings bs (Going o n)) {piece head : L
     whole-part = j .whole m is .fits
 
     pub whole-begun : n ≤ m
-    whole-begun = let c = j .whole m is .begun in omega (arith, going-kept b)
+    whole-begun = let c = j .whole m is .begun in omega (arith, going-kept b refl)
 
     pub whole-in : m - n ≤ length piece
-    whole-in = let c = j .whole m is .within in omega (arith, going-kept b)
+    whole-in = let c = j .whole m is .within in omega (arith, going-kept b refl)
 
     pub going-whole : {z : Shape} {s s′ bs′ p p′ : List ℕ} {a : Fed}
         → FedOn z s s′ bs bs′ p p′ (parse (take (m - 0) head) .requests ++ parseFrom piece (m - n) .requests) (leftBy (o + n) piece (parseFrom piece (m - n) .end)) a
         → FedOn z s s′ bs bs′ p p′ (parse all .requests) (leftBy o all (parse all .end)) a
     going-whole {z} {s} {s′} {bs′} {p} {p′} {a} f =
         let c = j .whole m is in
-        let k : length (keptIn bs n) ≡ n = going-kept b in
+        let k : length (keptIn bs n) ≡ n = going-kept b refl in
         let x : parse (take (m - 0) head) .requests ++ parseFrom piece (m - n) .requests ≡ parse all .requests =
         ap₂ (λ (i l : ℕ). parse (take i head) .requests ++ parseFrom piece (m - l) .requests) (sub-zero m) (sym k) ∙ sym (c .requests) in
         let y : leftBy (o + n) piece (parseFrom piece (m - n) .end) ≡ leftBy o all (parse all .end) =
@@ -338,8 +338,8 @@ module _ {z : Shape} {s : List ℕ} (l : storeBytes ≤ length s) (h : Held z s)
     pub going-over : lastOffset - o - n < length q → FedAs s c q p (Refused BadCarry) s c p
     unfolding feed
     going-over m =
-        let k = going-kept going-brings in
-        let f = going-ends going-brings in
+        let k = going-kept going-brings refl in
+        let f = going-ends going-brings refl in
         record {
           store = reads (stateIn z s);
           store-is = (l, held-holds h);
@@ -351,10 +351,10 @@ module _ {z : Shape} {s : List ℕ} (l : storeBytes ≤ length s) (h : Held z s)
 
     module _ (m : length q ≤ lastOffset - o - n) where
       pub going-within : o + n + length q ≤ lastOffset
-      going-within = let f = going-ends going-brings in omega arith
+      going-within = let f = going-ends going-brings refl in omega arith
 
       fits : o + length (keptIn c n) + length q ≤ lastOffset
-      fits = let k = going-kept going-brings in let g = going-within in omega arith
+      fits = let k = going-kept going-brings refl in let g = going-within in omega arith
 
       pub going-long : mostRequestBytes < length q → FedAs s c q p (Refused LongRequests) s c p
       unfolding feed
@@ -452,29 +452,29 @@ positive zero d = absurd (d refl)
 positive (suc n) d = omega arith
 
 module _ {c : List ℕ} {r : Brought} (b : Brings c r) where
-  pub finish-unfit : r ≡ Unfit → Finished c (Broken BadCarry)
+  pub finish-unfit : r ≡ Unfit → FinishAs c (Broken BadCarry)
   finish-unfit e = record { carry = unfit; carry-is = rw e at (b .is); says = refl }
 
-  pub finish-stopped : {i : ℕ} → r ≡ Halted i → Finished c (Broken (BadRecord i))
+  pub finish-stopped : {i : ℕ} → r ≡ Halted i → FinishAs c (Broken (BadRecord i))
   finish-stopped {i} e = record { carry = carries (record { offset = i; kept = []; stopped = true }); carry-is = rw e at (b .is); says = refl }
 
   module _ {o n : ℕ} (e : r ≡ Going o n) where
     here : Brings c (Going o n)
     here = subst (Brings c) e b
 
-    pub finish-cut : (n ≡ 0 → ⊥) → Finished c (Broken (BadRecord o))
+    pub finish-cut : (n ≡ 0 → ⊥) → FinishAs c (Broken (BadRecord o))
     finish-cut d =
-        let k = going-kept here in
+        let k = going-kept here refl in
         record {
           carry = carries (record { offset = o; kept = keptIn c n; stopped = false });
           carry-is = here .is;
           says = rw (some-kept (keptIn c n) (positive (length (keptIn c n)) (λ q. d (sym k ∙ q)))) refl;
         }
 
-    pub finish-complete : n ≡ 0 → Finished c Complete
+    pub finish-complete : n ≡ 0 → FinishAs c Complete
     finish-complete d =
         record {
           carry = carries (record { offset = o; kept = keptIn c n; stopped = false });
           carry-is = here .is;
-          says = ap (λ (i : ℕ). finishedAs (finishOn (carries (record { offset = o; kept = take i (drop 10 c); stopped = false })))) (sym d);
+          says = ap (λ (i : ℕ). verdictSays (finishOn (carries (record { offset = o; kept = take i (drop 10 c); stopped = false })))) (sym d);
         }

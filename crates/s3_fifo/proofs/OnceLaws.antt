@@ -25,7 +25,7 @@ use Rattle.s3_fifo.specs.declared.Fed.{Fed}
 use Rattle.s3_fifo.specs.declared.Fed.the-variants.{Done as Given, Stopped, Refused as Away}
 use Rattle.s3_fifo.specs.declared.Finish.{Finish}
 use Rattle.s3_fifo.specs.declared.Finish.the-variants.{Complete, Refused as Broken}
-use Rattle.s3_fifo.specs.Feeds.{fedSays, finishSays, saidWith, FollowsFeed, FedAs, finishedAs, Finished}
+use Rattle.s3_fifo.specs.Feeds.{fedSays, finishSays, saidWith, FollowsFeed, FedAs, verdictSays, FinishAs}
 use Rattle.s3_fifo.specs.Calls.{Said, gave, halted, turned, createdSays, ranSays, ReadsAs, Settled, Follows, Created, Called}
 use Rattle.s3_fifo.specs.Once.{Alike, Agrees, OneCreation, OneCall, OneFeed}
 
@@ -189,7 +189,7 @@ fed-once {s} {c} {q} {p} {s₁} {s₂} {c₁} {c₂} {p₁} {p₂} r t f g =
     let l = follows-feed-once v (fedSays r) (fedSays t) s s₁ s₂ c c₁ c₂ p p₁ p₂ (fed-on (g .store) (g .carry) (g .store-is) (g .carry-is) f) (g .leaves) in
     record { answer = fed-says-once r t (l .0); carries = l .1; replies = l .2; stores = l .3 }
 
-pub finished-once : {c : List ℕ} (r t : Finish) → Finished c r → Finished c t → r ≡ t
+pub finished-once : {c : List ℕ} (r t : Finish) → FinishAs c r → FinishAs c t → r ≡ t
 finished-once {c} r t f g =
     finish-says-once r t
-    (f .says ∙ ap (λ (k : Carried). finishedAs (finishOn k)) (carried-once c (f .carry) (g .carry) (f .carry-is) (g .carry-is)) ∙ sym (g .says))
+    (f .says ∙ ap (λ (k : Carried). verdictSays (finishOn k)) (carried-once c (f .carry) (g .carry) (f .carry-is) (g .carry-is)) ∙ sym (g .says))

@@ -22,7 +22,7 @@ use Rattle.s3_fifo.specs.declared.Ran.the-variants.{Done}
 use Rattle.s3_fifo.specs.declared.Finish.{Finish}
 use Rattle.s3_fifo.specs.declared.Finish.the-variants.{Complete}
 use Rattle.s3_fifo.specs.Calls.{ReadsAs, Called}
-use Rattle.s3_fifo.specs.Feeds.{finishSays, finishedAs, Finished}
+use Rattle.s3_fifo.specs.Feeds.{finishSays, verdictSays, FinishAs}
 use Rattle.s3_fifo.specs.Once.{Alike}
 use Rattle.s3_fifo.specs.Streams.{Stream, over, feeds, OneStream, AsOneCall}
 use Rattle.s3_fifo.proofs.OnceLaws.{alike-self, alike-holds, finish-says-once}
@@ -101,11 +101,11 @@ cut-anywhere [] (q ∷ qs) a b e = let y = set-off b in any-cutting-on (y .holds
 
 -- a finish says how the whole stream ended
 pub finish-says : {s c bs s′ c′ : List ℕ} (ps : List (List ℕ)) {σ : State} → Holds s σ → storeBytes ≤ length s → CarryAs c opening → Stream s c ps bs s′ c′
-    → (r : Finish) → Finished c′ r → finishSays r ≡ finishedAs (ended (feedOn σ opening (glued ps) .carry) (parse (glued ps) .end))
+    → (r : Finish) → FinishAs c′ r → finishSays r ≡ verdictSays (ended (feedOn σ opening (glued ps) .carry) (parse (glued ps) .end))
 finish-says {c′ = c′} ps {σ} h b x t r f =
     let k : Carry = feedOn σ opening (glued ps) .carry in
     let y : CarryAs c′ k = subst (λ (w : Flow). CarryAs c′ (w .carry)) (feed-all σ opening (x .could) ps) (stream-gives h b x t .next) in
-    f .says ∙ ap (λ (d : Carried). finishedAs (finishOn d)) (carried-once c′ (f .carry) (carries k) (f .carry-is) y) ∙ ap finishedAs (finish-is σ (glued ps))
+    f .says ∙ ap (λ (d : Carried). verdictSays (finishOn d)) (carried-once c′ (f .carry) (carries k) (f .carry-is) y) ∙ ap verdictSays (finish-is σ (glued ps))
 
 pub as-one-call : {s c bs s′ c′ p s₁ p₁ : List ℕ} {n : ℕ} (ps : List (List ℕ)) → CarryAs c opening → Stream s c ps bs s′ c′ → Called s (glued ps) p (Done n) s₁ p₁
     → AsOneCall bs s′ c′ n s₁ p₁
@@ -119,5 +119,5 @@ as-one-call {s} {c} {bs} {s′} {c′} {p} {s₁} {p₁} {n} ps x t d =
       replies = g .replies ∙ sym (y .served .told);
       stores = alike-holds (y .served .holds) (g .holds) (y .same-length ∙ sym (g .same-length));
       complete = λ r f. finish-says-once r Complete
-          (finish-says ps (y .held) (y .long) x t r f ∙ ap (λ (e : End). finishedAs (ended (feedOn σ opening (glued ps) .carry) e)) (y .ended));
+          (finish-says ps (y .held) (y .long) x t r f ∙ ap (λ (e : End). verdictSays (ended (feedOn σ opening (glued ps) .carry) e)) (y .ended));
     }

@@ -57,12 +57,12 @@ pub record FedAs (s c q p : List ℕ) (r : Fed) (s′ c′ p′ : List ℕ) : Ty
   pub untouched : AllPeeks (completedOf carry q) → s′ ≡ s
 
 -- what a finish's verdict says
-abbrev pub finishedAs : Verdict Carry → Said
-finishedAs (refused n d) = turned n d
-finishedAs (done c bs) = gave (length bs)
+abbrev pub verdictSays : Verdict Carry → Said
+verdictSays (refused n d) = turned n d
+verdictSays (done c bs) = gave (length bs)
 
 -- a finish: the carried record, which it only reads, and the answer
-pub record Finished (c : List ℕ) (r : Finish) : Type 0 where
+pub record FinishAs (c : List ℕ) (r : Finish) : Type 0 where
   pub carry : Carried
   pub carry-is : ReadsCarry c carry
-  pub says : finishSays r ≡ finishedAs (finishOn carry)
+  pub says : finishSays r ≡ verdictSays (finishOn carry)

@@ -8,7 +8,7 @@ use lib.ListN.{take}
 use Rattle.s3_fifo.specs.declared.Fed.{Fed}
 use Rattle.s3_fifo.specs.declared.Finish.{Finish}
 use Rattle.s3_fifo.specs.declared.Finish.the-variants.{Complete}
-use Rattle.s3_fifo.specs.Feeds.{fedSays, repliesIn, FedAs, Finished}
+use Rattle.s3_fifo.specs.Feeds.{fedSays, repliesIn, FedAs, FinishAs}
 use Rattle.s3_fifo.specs.Calls.{Said, gave, halted, turned}
 use Rattle.s3_fifo.specs.Once.{Alike}
 
@@ -34,4 +34,4 @@ pub record OneStream (bs₁ bs₂ s₁ s₂ c₁ c₂ : List ℕ) : Type 0 where
 pub record AsOneCall (bs s′ c′ : List ℕ) (n : ℕ) (s₁ p₁ : List ℕ) : Type 0 where
   pub replies : bs ≡ take n p₁
   pub stores : Alike s₁ s′
-  pub complete : (r : Finish) → Finished c′ r → r ≡ Complete
+  pub complete : (r : Finish) → FinishAs c′ r → r ≡ Complete

@@ -18,7 +18,7 @@ ghost use Rattle.requests.specs.Answers.{spokenOf};
 ghost use Rattle.store.specs.Holds.{Held};
 ghost use Rattle.s3_fifo.specs.Runs.{Runs, TurnsAway, FedOn};
 ghost use Rattle.s3_fifo.specs.Calls.{Created, Called};
-ghost use Rattle.s3_fifo.specs.Feeds.{FedAs, Finished};
+ghost use Rattle.s3_fifo.specs.Feeds.{FedAs, FinishAs};
 use carry::Brought;
 use carry::Head;
 use evict::Pushed;
@@ -348,7 +348,7 @@ impl S3FifoCache {
 
     // Whether a stream may end here: it has not stopped, and no record is cut.
     pub fn finish(carry: &[u8]) -> Finish
-        ensures { λ r. ⌜ Finished (now (carry .entry)) r ⌝ }
+        ensures { λ r. ⌜ FinishAs (now (carry .entry)) r ⌝ }
     {
         let brought = carry::read(carry);
         match brought {

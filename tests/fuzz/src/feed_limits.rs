@@ -71,8 +71,10 @@ impl Limits<'_> {
                 carry[KEPT + count..].fill(0);
                 self.feed(&carry, b"X", ROOM)?;
                 self.finish(&carry)?;
-                carry[FLAG] = 1 + (count % 2) as u8;
-                self.feed(&carry, b"X", ROOM)?;
+                for flag in [1, 2, 255] {
+                    carry[FLAG] = flag;
+                    self.feed(&carry, b"X", ROOM)?;
+                }
             }
         }
         for at in KEPT + 2..CARRY_BYTES {

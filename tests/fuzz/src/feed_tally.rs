@@ -15,7 +15,7 @@ const FAR: &str = "feeds beyond offset 2^63, accepted";
 const STOPS_REPLYING: &str = "streams stopped by a feed with replies";
 const STOPS_SILENT: &str = "streams stopped by a feed without replies";
 const STOPS_AT_CUT_MARK: &str = "streams stopped by a mark cut between two feeds";
-const ROOM_FIRST: &str = "10 ahead of a new 9";
+const ROOM_FIRST: &str = "feeds refused with 10 where a new 9 would come next";
 const FINISH_CUT: &str = "finishes of a record still cut";
 const FINISH_STOPPED: &str = "finishes of a stopped stream";
 

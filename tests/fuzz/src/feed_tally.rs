@@ -35,8 +35,9 @@ const EVENTS: [&str; 12] = [
     FINISH_STOPPED,
 ];
 
-/// Two refusals that apply at once, the one that must be given first: each must come up, as it shows the order.
-const PAIRS: [(u8, u8); 7] = [(6, 17), (6, 8), (7, 17), (7, 8), (17, 8), (8, 9), (8, 10)];
+/// Two refusals that apply at once, the one that must be given first. Each must come up, as it shows the order.
+const PAIRS: [(u8, u8); 11] =
+    [(6, 17), (6, 8), (6, 9), (6, 10), (7, 17), (7, 8), (7, 9), (7, 10), (17, 8), (8, 9), (8, 10)];
 
 #[derive(Default)]
 pub struct FeedTally {

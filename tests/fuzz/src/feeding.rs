@@ -4,7 +4,6 @@ use crate::Fuzzer;
 use crate::calls::{MOST_REPLIES, MOST_REQUESTS};
 use crate::carry_damage::{self, CARRY_KINDS};
 use crate::damage;
-use crate::layout;
 use crate::stream;
 use crate::streams::{STREAMS, Stream};
 use crate::verdict::{MOST_REQUEST_BYTES, STORE_BYTES, Verdict};
@@ -53,7 +52,7 @@ impl Fuzzer {
         let mut store = self.store.clone();
         match self.random.below(24) {
             0 => store.truncate(self.random.index(STORE_BYTES)),
-            1..=2 if layout::state(&store).is_some() => {
+            1..=2 => {
                 let kind = self.random.pick(&damage::KINDS);
                 damage::inflict(kind, &mut store, &self.earlier, &mut self.random);
             },

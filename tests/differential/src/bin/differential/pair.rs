@@ -20,10 +20,10 @@ pub struct Pair {
     surplus: Vec<u8>,
     original: Original,
     replies: Vec<u8>,
-    /// The original's replies, those in front that a feed still owes from the call before.
+    /// The original's replies to the call, behind the bytes that feeds still owe from the call before.
     expected: Vec<u8>,
     owed: usize,
-    /// How many of them feeds have given.
+    /// How many of all these feeds have given.
     given: usize,
 }
 

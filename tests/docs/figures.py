@@ -57,7 +57,19 @@ def rows_of_fuzz(said):
     yield "fuzz: creations refused, by number", fuzz(r"^  create: .*; refused (.*)$")
     yield "fuzz: runs accepted", fuzz(r"^  run: accepted (\d+);")
     yield "fuzz: runs refused, by number", fuzz(r"^  run: .*; refused (.*)$")
+    yield "fuzz: feeds accepted, those that stop their stream among them", fuzz(r"^  feed: accepted (\d+);")
+    yield "fuzz: feeds refused, by number", fuzz(r"^  feed: .*; refused (.*)$")
+    stopped = (fuzz(rf"^    streams stopped by a feed {how} replies +(\d+)$") for how in ("with", "without"))
+    yield "fuzz: streams stopped by a feed, with replies and without", ", ".join(stopped)
+    yield "fuzz: finishes of a complete stream", fuzz(r"^  finish: accepted (\d+);")
+    yield "fuzz: finishes refused, by number", fuzz(r"^  finish: .*; refused (.*)$")
+    yield "fuzz: things wrong with a carry, each by itself", str(things_wrong_with_a_carry(fuzz))
     yield "fuzz: stores that an accepted call left, lent again and accepted", fuzz(r"each accepted again: (\d+)$")
+
+
+def things_wrong_with_a_carry(fuzz):
+    """The lines of their table, which have words and two numbers."""
+    return len(re.findall(r"^    [a-z]+,? [a-z].* +\d+ +\d+$", fuzz.text, re.M))
 
 
 def rows_of_hosts(said, original):
@@ -101,13 +113,16 @@ def rows(said, machine, original):
         run = Printed(said, "differential")
         yield "differential run: requests", run(r"^ +(\d+)  requests$")
         yield "differential run: calls", run(r"^ +(\d+)  calls$")
+        yield "differential run: requests fed", run(r"^ +(\d+)  requests fed$")
+        yield "differential run: pieces", run(r"^ +(\d+)  pieces fed$")
         yield "differential run: kinds of event", str(kinds_of_event(said))
 
 
 MAY_BE_MISSING = {
     "host in C under valgrind, 300 random calls: checks",
     "example host, over the original: runs in which a block comes to belong to two",
-    "differential run: requests", "differential run: calls", "differential run: kinds of event",
+    "differential run: requests", "differential run: calls", "differential run: requests fed", "differential run: pieces",
+    "differential run: kinds of event",
 }
 
 
@@ -139,6 +154,8 @@ def sentences_of_files():
     yield "host/README.md", f"how long a store must be ({store})"
     yield "docs/STORE.md", f"which every store must have (refusal 6 below it) | {store} |"
     yield TABLE, f"stores from 0 bytes on and around {store}, requests around {requests} bytes"
+    yield TABLE, f"pieces around {requests} bytes"
+    yield TABLE, f"pieces of 0 bytes to {requests} and more"
     yield TABLE, f"of which the program reads {int(constants['settings_bytes']) + int(constants['most_request_bytes']) + 1:,} bytes and no more"
     yield "man/mapcache-replay.1.in", f"(the bits of two IEEE 754 doubles): {constants['settings_bytes']} bytes."
     yield "man/mapcache-replay.1.in", f"More than {requests} bytes of requests are"
@@ -159,6 +176,11 @@ def sentences_of_files():
     for capacity, ratios in ratios_of_speed().items():
         low, high = (f"{round(end, 1):.1f}" for end in (min(ratios), max(ratios)))
         yield "README.md", f"{low} to {high} times" + (" the original's time" if capacity == "100" else "") + f" at capacity {int(capacity):,}"
+
+
+def sentences_of_fuzz(said):
+    """The same, as the fuzzer has printed."""
+    yield TABLE, f"Of carries each of {things_wrong_with_a_carry(Printed(said, 'fuzz'))} things that can be wrong"
 
 
 def sentences_of_runs(said):
@@ -263,6 +285,7 @@ def compare(said=None, machine=None, *without):
     if said is None:
         return list(wrong_sentences(sentences)), f"{len(sentences)} sentences of the documents are what the files say"
     original = without != ("without-original",)
+    sentences += sentences_of_fuzz(said)
     sentences += sentences_of_runs(said) if original else []
     wrong = [*wrong_rows(said, machine, original), *wrong_sentences(sentences), *wrong_axioms()]
     count = len(sentences) + len(dict(rows(said, machine, original)))

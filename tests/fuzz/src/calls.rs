@@ -1,5 +1,7 @@
 //! One call of the archive in guarded buffers, held to what it must answer.
 
+mod feeds;
+
 use crate::guard::{Edge, Guarded};
 use crate::layout::{self, Read};
 use crate::verdict::{self, STORE_BYTES, Verdict};
@@ -11,14 +13,17 @@ use mapcache::{Settings, ffi};
 pub const MOST_STORE: usize = STORE_BYTES + 8192;
 pub const MOST_REQUESTS: usize = 40_960;
 pub const MOST_REPLIES: usize = 600_000;
+pub const MOST_CARRY: usize = 96;
 
-/// What stands in `*detail` before a call. No detail is as large.
+/// What stands in `*detail` and `*replied` before a call. No run has a detail as large, and a feed writes even numbers.
 const UNWRITTEN: u64 = 0xDDDD_DDDD_DDDD_DDDD;
 
 pub struct Calls {
     store: Guarded,
     requests: Guarded,
     replies: Guarded,
+    carry: Guarded,
+    replied: Guarded,
     detail: Guarded,
     /// All calls made, and those among them that only see whether a store is accepted again.
     pub made: u64,
@@ -31,6 +36,8 @@ impl Calls {
             store: Guarded::new(MOST_STORE),
             requests: Guarded::new(MOST_REQUESTS),
             replies: Guarded::new(MOST_REPLIES),
+            carry: Guarded::new(MOST_CARRY),
+            replied: Guarded::new(8),
             detail: Guarded::new(8),
             made: 0,
             made_again: 0,
@@ -144,6 +151,8 @@ impl Calls {
             ("store", &mut self.store),
             ("requests", &mut self.requests),
             ("replies", &mut self.replies),
+            ("carry", &mut self.carry),
+            ("replied", &mut self.replied),
             ("detail", &mut self.detail),
         ] {
             if !buffer.beside_is_untouched() {

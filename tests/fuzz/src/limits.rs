@@ -17,11 +17,11 @@ pub fn all(calls: &mut Calls, tally: &mut Tally, random: &mut Random) -> Result<
     tally.creation(&calls.create(Settings::with_capacity(3), &mut store, random)?);
     request_lengths(calls, tally, &mut store, random)?;
     cuts_and_reply_lengths(calls, tally, &mut store, random)?;
-    tally.at_limits = calls.made - before;
+    tally.at_limits += calls.made - before;
     Ok(())
 }
 
-fn around(limit: usize) -> std::ops::RangeInclusive<usize> {
+pub fn around(limit: usize) -> std::ops::RangeInclusive<usize> {
     limit.saturating_sub(AROUND)..=limit + AROUND
 }
 

@@ -1,16 +1,24 @@
-//! Bad input at scale: calls of the archive with stores of every kind of damage, requests cut and garbled, and every
-//! buffer length around each limit, in buffers that end at unreadable pages. Each call's answer, replies and store are
-//! held to what the rules give, worked out here from the bytes anew; a refused call must change nothing, no call may
-//! touch anything else, and a store that a call left must be accepted by the next.
+//! Bad input at scale: calls of the archive with stores of every kind of damage, requests cut and garbled, streams fed in
+//! pieces with carries that no feed left, and every buffer length around each limit, in buffers that end at unreadable
+//! pages. Each call's answer, replies, store and carry are held to what the rules give, worked out here from the bytes anew;
+//! a refused call must change nothing, no call may touch anything else, and a store that a call left must be accepted by
+//! the next.
 
 mod calls;
+mod carry;
+mod carry_damage;
 mod damage;
 mod edit;
+mod feed_limits;
+mod feed_tally;
+mod feeding;
 mod guard;
 mod input;
 mod layout;
 mod limits;
 mod state;
+mod stream;
+mod streams;
 mod tally;
 mod verdict;
 mod watch;
@@ -19,6 +27,7 @@ use calls::{Calls, MOST_REPLIES, MOST_REQUESTS, MOST_STORE};
 use common::Random;
 use common::program::Options;
 use std::process::ExitCode;
+use streams::{STREAMS, Stream};
 use tally::Tally;
 use verdict::{MOST_REQUEST_BYTES, STORE_BYTES, Verdict, reply_room};
 
@@ -57,7 +66,7 @@ fn fuzz(seed: u64, least: u64) -> ExitCode {
     ExitCode::from(u8::from(!missing.is_empty()))
 }
 
-/// A sound store that goes on from call to call, and an earlier one.
+/// A sound store that goes on from call to call, the streams that are fed to it, and an earlier store.
 struct Fuzzer {
     random: Random,
     calls: Calls,
@@ -65,17 +74,21 @@ struct Fuzzer {
     store: Vec<u8>,
     earlier: Vec<u8>,
     keys: u64,
+    streams: [Stream; STREAMS],
 }
 
 impl Fuzzer {
     fn new(seed: u64) -> Fuzzer {
+        let mut random = Random::new(seed);
+        let streams = [(); STREAMS].map(|()| Stream::new(&mut random));
         Fuzzer {
-            random: Random::new(seed),
+            random,
             calls: Calls::new(),
             tally: Tally::default(),
             store: Vec::new(),
             earlier: Vec::new(),
             keys: 0,
+            streams,
         }
     }
 
@@ -87,16 +100,19 @@ impl Fuzzer {
             ));
         }
         limits::all(&mut self.calls, &mut self.tally, &mut self.random)?;
+        feed_limits::all(&mut self.calls, &mut self.tally, &mut self.random)?;
         self.new_store()?;
         self.earlier = self.store.clone();
         while self.calls.made < least {
-            match self.random.below(20) {
+            match self.random.below(32) {
                 0 => self.new_store()?,
                 1 => self.any_creation()?,
                 2..=6 => self.sound_call()?,
                 7..=9 => self.bad_requests()?,
                 10 => self.bad_lengths()?,
-                _ => self.damaged_store()?,
+                11..=19 => self.damaged_store()?,
+                20..=28 => self.feed()?,
+                _ => self.finish()?,
             }
         }
         Ok(())

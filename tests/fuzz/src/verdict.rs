@@ -1,8 +1,9 @@
 //! What each call must answer, worked out from the bytes of its buffers alone.
 //!
-//! This file, `state` and `layout` are the fuzzer's judge. They have their own reader of stores and records, their own
-//! rules and their own constants, and share none with the wrapper, with the reader that the differential runs use or with
-//! the archive: a mistake in what is shared would be on both sides of each comparison, and no run would show it.
+//! This file, `carry`, `stream`, `state` and `layout` are the fuzzer's judge. They have their own reader of stores, carries
+//! and records, their own rules and their own constants, and share none with the wrapper, with the reader that the
+//! differential runs use or with the archive: a mistake in what is shared would be on both sides of each comparison, and no
+//! run would show it.
 
 use crate::layout;
 use crate::state::State;
@@ -32,7 +33,7 @@ fn refused(number: u8) -> Verdict {
 }
 
 /// The marks with the bytes of their records and their reply room.
-const TABLE: [(&[u8; 2], usize, usize); 6] =
+pub const TABLE: [(&[u8; 2], usize, usize); 6] =
     [(b"GT", 10, 10), (b"PK", 10, 10), (b"RM", 10, 10), (b"IN", 18, 28), (b"EV", 2, 36), (b"CL", 2, 2)];
 
 /// The reply room of all requests, or the offset of the first record that is none.

@@ -58,16 +58,16 @@ fn say(text: &[u8]) {
     unsafe { write(2, text.as_ptr().cast(), text.len()) };
 }
 
-fn say_number(mut number: u64) {
-    let mut digits = [b'0'; 20];
-    let mut at = digits.len();
-    loop {
-        at -= 1;
-        digits[at] = b'0' + (number % 10) as u8;
-        number /= 10;
-        if number == 0 {
-            break;
-        }
+/// Digit by digit from a table: an emulator may start a handler on a stack that is not aligned, where an array ends the program.
+fn say_number(number: u64) {
+    const DIGITS: &[u8; 10] = b"0123456789";
+    let mut place = 1;
+    while number / place >= 10 {
+        place *= 10;
     }
-    say(&digits[at..]);
+    while place > 0 {
+        let digit = (number / place % 10) as usize;
+        say(&DIGITS[digit..=digit]);
+        place /= 10;
+    }
 }

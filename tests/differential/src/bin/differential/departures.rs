@@ -1,6 +1,7 @@
 //! Every departure from the original, shown on a small input: what ours does, what the original does. The table of
 //! docs/DIFFERENCES.md is what this prints; each row is tried before it is printed.
 
+use crate::feed::{self, Answer, CARRY_BYTES};
 use mapcache::{DEFAULT_GHOST_RATIO, DEFAULT_SMALL_RATIO, GuestBlock, PhysicalBlock, Reply, Request, Settings};
 use original::driver::Original;
 use original::policy::s3_fifo::S3FifoCache;
@@ -12,6 +13,7 @@ pub fn print() {
     println!("| refusal | input | the original |\n|---|---|---|");
     creation_rows();
     call_rows();
+    stream_rows();
     println!("\n| without a refusal | ours | the original |\n|---|---|---|");
     silent_rows_of_one();
     silent_rows_of_two();
@@ -105,6 +107,30 @@ fn call_rows() {
     row(9, &mut created(), &cut, 38, 18, "IN 7 70, then the byte G", no_bytes);
     let returned = "has no reply buffer: its methods return values";
     row(10, &mut created(), &insert, 27, 28, "IN 7 70 with a reply buffer of 27 bytes", returned);
+}
+
+/// Carries that no feed could have left, and one that this piece cannot follow. Nothing of store and carry may change.
+fn stream_rows() {
+    let no_streams = "has no streams: a request comes whole, as a method's arguments";
+    let row = |input| println!("| 17 | {input} (detail 0) | {no_streams} |");
+    for (offset, input) in
+        [(1, "a feed of CL, with a carry at offset 1"), (u64::MAX - 1, "a feed of CL, with a carry at offset 2^64 - 2")]
+    {
+        let (mut store, mut carry) = (created(), carry(offset, b""));
+        let answer = feed::feed(&mut store, &mut carry, b"CL", &mut [0; 2]);
+        assert_eq!(answer, Answer { answer: -17, replied: 0, detail: 0 }, "{input}");
+        assert!(store == created() && carry == self::carry(offset, b""), "{input}: something changed");
+        row(input);
+    }
+    assert_eq!(feed::finish(&carry(18, b"EV")), (-17, 0));
+    row("a finish, with a carry that keeps EV, a whole record");
+}
+
+/// What a stream that has not stopped carries, whether or not a feed could have left it.
+fn carry(offset: u64, kept: &[u8]) -> Vec<u8> {
+    let mut carry = [&offset.to_le_bytes()[..], &[kept.len() as u8, 0], kept].concat();
+    carry.resize(CARRY_BYTES, 0);
+    carry
 }
 
 /// Where both accept, and the original says less, at capacity 1.

@@ -1,6 +1,9 @@
 //! The proved library against the original: on the same requests both must answer the same bytes and reach the same state.
 
 mod departures;
+mod ending;
+mod fed;
+mod feed;
 mod pair;
 mod recorded;
 mod runs;

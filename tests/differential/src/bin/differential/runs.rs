@@ -84,7 +84,8 @@ fn trace(mut random: Random, run: &Run, tally: &mut Tally) -> Result<(), String>
     while (done.len() as u64) < run.requests {
         let call = traffic.call(run.requests - done.len() as u64);
         done.extend(&call);
-        match pair.call(&call) {
+        let is_last = done.len() as u64 >= run.requests;
+        match pair.call(&call, is_last) {
             Ok(agreed) => tally.call(&call, &agreed),
             Err(difference) => return Err(explain(run.settings, done, &call, difference)),
         }

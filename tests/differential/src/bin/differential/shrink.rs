@@ -35,7 +35,7 @@ fn failing_front(settings: Settings, requests: &[Request]) -> Option<(Vec<Reques
         Err(difference) => return Some((Vec::new(), difference)),
     };
     requests.iter().enumerate().find_map(|(at, request)| {
-        let difference = pair.call(std::slice::from_ref(request)).err()?;
+        let difference = pair.call(std::slice::from_ref(request), false).err()?;
         Some((requests[..=at].to_vec(), difference))
     })
 }

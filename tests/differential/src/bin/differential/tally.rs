@@ -13,7 +13,7 @@ pub struct Tally {
 }
 
 /// Each must come up.
-const EVENTS: [&str; 45] = [
+const EVENTS: [&str; 57] = [
     "calls",
     "calls of no request",
     "calls of one request",
@@ -59,6 +59,18 @@ const EVENTS: [&str; 45] = [
     "states: ghosts full",
     "states: some frequency 3",
     "states: no ghosts allowed",
+    "requests fed",
+    "pieces fed",
+    "pieces of no byte",
+    "pieces of 32,768 bytes",
+    "pieces that end in a mark",
+    "pieces that end in a record",
+    "pieces fed to a stopped stream",
+    "streams stopped by a piece with replies",
+    "streams stopped by a piece without replies",
+    "streams finished, complete",
+    "streams finished, cut",
+    "streams finished, stopped",
 ];
 
 impl Tally {
@@ -93,6 +105,7 @@ impl Tally {
         assert!(rest.is_empty(), "each reply belongs to a request");
         self.add("IN: ghost hits", agreed.ghost_hits);
         self.state(&agreed.state);
+        agreed.fed.iter().for_each(|(event, times)| self.add(event, *times));
     }
 
     fn request(&mut self, request: Request) {

@@ -195,8 +195,7 @@ fed-once f g =
 
 finished-once : {c : List ℕ} {m n : ℤ} {d e : ℕ} → FinishedWith c m d → FinishedWith c n e → (m ≡ n) × (d ≡ e)
 finished-once f g =
-    let o = once.finished-once (f .answer) (g .answer) (f .finished) (g .finished) in
-    (
+    let o = once.finished-once (f .answer) (g .answer) (f .finished) (g .finished) in (
       f .code-is ∙ ap (λ (r : Finish). codeOf (finishSays r)) o ∙ sym (g .code-is),
       f .detail-is ∙ ap (λ (r : Finish). detailIn (finishSays r)) o ∙ sym (g .detail-is),
     )

@@ -193,9 +193,9 @@ grow-called : {s q p s′ p′ : List ℕ} {n : ℕ} {σ₀ : State} {rs : List 
 grow-called {q = q} g b c = let v = served (g .holds) (g .long) c in grow (parse q .requests) g (parse-sized q b) (v .0 .holds) (v .0 .told) (v .1)
 
 -- what a feed carries out has numbers of 64 bits
-fed-narrow : {c q : List ℕ} (k : Carry) → CarryAs c k → Bytes c → Bytes q → AllNarrow (completedOf (carries k) q)
+fed-narrow : {c : List ℕ} (q : List ℕ) (k : Carry) → CarryAs c k → Bytes c → Bytes q → AllNarrow (completedOf (carries k) q)
 unfolding completed
-fed-narrow {c} {q} k x b d = go (k .stopped)
+fed-narrow {c} q k x b d = go (k .stopped)
   where
     go : (t : Bool) → AllNarrow (cond t [] (completed k q))
     go true = tt
@@ -214,7 +214,7 @@ module _ {s c q p s′ c′ p′ : List ℕ} {r : Fed} (f : FedAs s c q p r s′
       let w = goes-on r (g .holds) (g .long) x f t .went in
       let e : feedOn σ k q ≡ flow (feedOn σ k q .carry) (run σ (completedOf (carries k) q)) = feed-runs σ k q in
       subst (λ (y : Carried). Grown s′ σ₀ (rs ++ completedOf y q) (bs ++ take n p′)) (sym (l .carry-is))
-      (grow (completedOf (carries k) q) g (fed-narrow k x b d)
+      (grow (completedOf (carries k) q) g (fed-narrow q k x b d)
       (subst (Holds s′) (ap (λ (y : Flow). y .state) e) (w .holds))
       (w .told ∙ ap (λ (y : Flow). encodeAll (y .replies)) e)
       (let h = g .long in omega (arith, w .same-length)))
@@ -228,15 +228,15 @@ module _ {s c q p s′ c′ p′ : List ℕ} {r : Fed} (f : FedAs s c q p r s′
 -- a feed that was turned away leaves the store as it was
 unfed-same : (v : Verdict Onward) (n d : ℕ) (a : Said) (s s′ c c′ p p′ : List ℕ) → FollowsFeed v a s s′ c c′ p p′ → a ≡ turned n d → s′ ≡ s
 unfed-same (turnedBy m e) n d a s s′ c c′ p p′ h r = h .1
-unfed-same (done w bs) n d a s s′ c c′ p p′ h r = absurd (goes-not (w .carry) (sym (h .0) ∙ r))
+unfed-same (done w bs) n d a s s′ c c′ p p′ h r = absurd (goes-not (w .carry) (length bs) (sym (h .0) ∙ r))
 
-grow-either : {s c q p s′ c′ p′ : List ℕ} {r : Fed} (f : FedAs s c q p r s′ c′ p′) {σ₀ : State} {rs : List Request} {bs : List ℕ} → Grown s σ₀ rs bs → Bytes c
+grow-either : {s c q p s′ c′ p′ : List ℕ} (r : Fed) (f : FedAs s c q p r s′ c′ p′) {σ₀ : State} {rs : List Request} {bs : List ℕ} → Grown s σ₀ rs bs → Bytes c
     → Bytes q → (a : Said) → fedSays r ≡ a → Grown s′ σ₀ (rs ++ carriedOut a (completedOf (f .carry) q)) (bs ++ take (repliesIn a) p′)
-grow-either {q = q} {p′ = p′} f {σ₀} {rs} {bs} g b d (gave n) e =
-    subst (λ (a : Said). Grown _ σ₀ (rs ++ completedOf (f .carry) q) (bs ++ take (repliesIn a) p′)) e (grow-fed f g b d (subst Goes (sym e) tt))
-grow-either {q = q} {p′ = p′} f {σ₀} {rs} {bs} g b d (halted n i) e =
-    subst (λ (a : Said). Grown _ σ₀ (rs ++ completedOf (f .carry) q) (bs ++ take (repliesIn a) p′)) e (grow-fed f g b d (subst Goes (sym e) tt))
-grow-either {s} {c} {q} {p} {s′} {c′} {p′} {r} f g b d (turned n i) e =
+grow-either {q = q} {s′ = s′} {p′ = p′} r f {σ₀} {rs} {bs} g b d (gave n) e =
+    subst (λ (a : Said). Grown s′ σ₀ (rs ++ completedOf (f .carry) q) (bs ++ take (repliesIn a) p′)) e (grow-fed f g b d (subst Goes (sym e) tt))
+grow-either {q = q} {s′ = s′} {p′ = p′} r f {σ₀} {rs} {bs} g b d (halted n i) e =
+    subst (λ (a : Said). Grown s′ σ₀ (rs ++ completedOf (f .carry) q) (bs ++ take (repliesIn a) p′)) e (grow-fed f g b d (subst Goes (sym e) tt))
+grow-either {s} {c} {q} {p} {s′} {c′} {p′} r f g b d (turned n i) e =
     grow-none f g b d (unfed-same (feed (f .store) (f .carry) q (length p)) n i (fedSays r) s s′ c c′ p p′ (f .leaves) e)
 
 pub grown : {s : List ℕ} {σ₀ : State} {rs : List Request} {bs : List ℕ} → Chain s σ₀ rs bs → Grown s σ₀ rs bs
@@ -246,7 +246,7 @@ grown (start {settings = settings} c) =
 grown (accepted h b c) = grow-called (grown h) b c
 grown (refused {s = s} {q = q} {p = p} {s′ = s′} {p′ = p′} {r = r} {σ₀ = σ₀} {rs = rs} {bs = bs} n d h c e) =
     subst (λ (x : List ℕ). Grown x σ₀ rs bs) (sym (refused-same (call (c .store) q (length p)) n d (ranSays r) s s′ p p′ (c .leaves) e)) (grown h)
-grown (fed {r = r} h b d f) = grow-either f (grown h) b d (fedSays r) refl
+grown (fed {r = r} h b d f) = grow-either r f (grown h) b d (fedSays r) refl
 
 pub chain-keeps : {s : List ℕ} {σ₀ : State} {rs : List Request} {bs : List ℕ} → Chain s σ₀ rs bs → Kept s σ₀ rs bs
 chain-keeps {s} {σ₀} {rs} {bs} c =

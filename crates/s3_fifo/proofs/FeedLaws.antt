@@ -19,10 +19,10 @@ use Rattle.rules.specs.declared.Turned.the-variants.{ShortStore, DamagedStore, 
 use Rattle.rules.specs.State.{State}
 use Rattle.rules.specs.Records.{Request, AllPeeks}
 use Rattle.rules.specs.Requests.{run}
-use Rattle.rules.specs.Bytes.{End, whole, unknownAt, cutAt, ends, Parsed, parseFrom, parse, roomFor, encodeAll}
+use Rattle.rules.specs.Bytes.{spotAt, End, whole, unknownAt, cutAt, ends, Parsed, parseFrom, parse, roomFor, encodeAll}
 use Rattle.rules.specs.Refusals.{numberOf, detailOf, storeBytes, mostRequestBytes}
 use Rattle.rules.specs.Verdict.{short, damaged, reads}
-use Rattle.rules.specs.Carry.{Carry, lastOffset, leftBy, carryBytes, keptRoom, carryWritten, CarryAs, unfit, carries}
+use Rattle.rules.specs.Carry.{Carry, waits, lastOffset, leftBy, carryBytes, keptRoom, carryWritten, CarryAs, unfit, carries}
 use Rattle.rules.specs.Feed.{feedOn, completed, runsOver, feed, finishOn}
 use Rattle.rules.proofs.FeedCouldLaws.{some-kept}
 use Rattle.rules.proofs.StreamLaws.{parse-room, room-append, EndsIn, parse-within}
@@ -37,7 +37,7 @@ use Rattle.carry.specs.declared.Head.{Head}
 use Rattle.carry.specs.declared.Head.the-variants.{Whole, Cut, Unknown}
 use Rattle.carry.specs.Carries.{headBytes, mostKept, keptIn, carriedBy, Brings, CarryPut}
 use Rattle.carry.specs.Heads.{Completes, StillCut, HeadJoins}
-use Rattle.carry.proofs.CarriesLaws.{going-kept, going-ends}
+use Rattle.carry.proofs.CarriesLaws as lent
 use Rattle.store.specs.Holds.{stateIn, shapeFor, Held}
 use Rattle.store.proofs.HoldsLaws.{held-holds, limits-shown}
 use Rattle.soundness.specs.declared.Checked.{Checked}
@@ -79,24 +79,27 @@ module _ (head piece : List ℕ) (from : ℕ) {v w : Survey} (g : v ≡ surveyed
   whole-refused {p = p} k l {i} e =
       record { fed = (ap NoRoom (e ∙ rooms), subst (λ (n : ℕ). length p < n) rooms l, refl, refl, refl) }
 
-  module _ {p : List ℕ} (enough : v .room + w .room ≤ length p) where
-    abbrev all-room : roomFor (parse head .requests) + roomFor (parseFrom piece from .requests) ≤ length p
-    all-room = omega (arith, rooms, room-append (parse head .requests) (parseFrom piece from .requests))
+  pub both-ready : {p : List ℕ} → v .room + w .room ≤ length p → HasRoom both p 0
+  both-ready l = record { within = omega arith; room = omega (arith, rooms) }
 
-    pub head-ready : HasRoom (parseFrom head 0 .requests) p 0
+-- the two runs
+module _ (head piece : List ℕ) (from : ℕ) {p : List ℕ} (r : HasRoom (parse head .requests ++ parseFrom piece from .requests) p 0) where
+  room-both : roomFor (parse head .requests) + roomFor (parseFrom piece from .requests) ≤ length p
+  room-both = let l = r .room in omega (arith, room-append (parse head .requests) (parseFrom piece from .requests))
+
+  pub head-ready : HasRoom (parseFrom head 0 .requests) p 0
+  unfolding parse
+  head-ready = let l = room-both in record { within = omega arith; room = omega arith }
+
+  module _ {z : Shape} {s s₁ p₁ : List ℕ} {m : ℕ} (a : Runs z s s₁ (parseFrom head 0 .requests) p p₁ 0 m) where
+    pub piece-ready : HasRoom (parseFrom piece from .requests) p₁ m
     unfolding parse
-    head-ready = let r = all-room in record { within = omega arith; room = omega arith }
+    piece-ready = runs-room a (parseFrom piece from .requests) room-both
 
-    module _ {z : Shape} {s s₁ p₁ : List ℕ} {m : ℕ} (a : Runs z s s₁ (parseFrom head 0 .requests) p p₁ 0 m) where
-      pub piece-ready : HasRoom (parseFrom piece from .requests) p₁ m
-      unfolding parse
-      piece-ready = runs-room a (parseFrom piece from .requests) all-room
-
-      module _ {s₂ p₂ : List ℕ} {n : ℕ} (b : Runs z s₁ s₂ (parseFrom piece from .requests) p₁ p₂ m n) where
-        -- all was carried out
-        whole-ran : {c c′ : List ℕ} (k : Carry) → CarryPut c k c′ → FedRan z s s₂ c c′ p p₂ both k n
-        unfolding parse
-        whole-ran k u = record { runs = runs-runs a b all-room; room = omega (arith, rooms); put = u .is }
+    pub both-ran : {s₂ p₂ : List ℕ} {n : ℕ} → Runs z s₁ s₂ (parseFrom piece from .requests) p₁ p₂ m n
+        → Runs z s s₂ (parse head .requests ++ parseFrom piece from .requests) p p₂ 0 n
+    unfolding parse
+    both-ran b = runs-runs a b room-both
 
 -- ---- what is left of the piece
 
@@ -121,7 +124,7 @@ end-within s (unknownAt i) h = h
 end-within s (cutAt i) h = h .0
 
 module _ (piece : List ℕ) (from : ℕ) {w : Survey} (h : w ≡ surveyed (length piece) (parseFrom piece from)) where
-  e : End
+  abbrev e : End
   e = parseFrom piece from .end
 
   at-is : w .at ≡ endAt (length piece) e
@@ -142,18 +145,26 @@ module _ (piece : List ℕ) (from : ℕ) {w : Survey} (h : w ≡ surveyed (lengt
     at-whole k = let q = all-end e (sym stop-is ∙ k) in (q, at-is ∙ ap (endAt (length piece)) q)
 
     -- what is cut has room in the record
-    pub cut-within : t ≡ Short → from ≤ length piece → (w .at ≤ length piece) × (length piece ≤ w .at + keptRoom)
-    cut-within k l =
-        let i : EndsIn piece (cutAt (w .at)) = subst (EndsIn piece) (at-cut k) (parse-within piece from l) in
-        (i .0, omega (arith, i .1))
+    module _ (k : t ≡ Short) (l : from ≤ length piece) where
+      there : EndsIn piece (cutAt (w .at))
+      there = subst (EndsIn piece) (at-cut k) (parse-within piece from l)
 
-    pub whole-within : t ≡ All → (w .at ≤ length piece) × (length piece ≤ w .at + keptRoom)
-    whole-within k = let q = at-whole k .1 in omega arith
+      pub cut-inside : w .at ≤ length piece
+      cut-inside = there .0
+
+      pub cut-room : length piece ≤ w .at + keptRoom
+      cut-room = omega (arith, there .1)
+
+    pub whole-inside : t ≡ All → w .at ≤ length piece
+    whole-inside k = let q = at-whole k .1 in omega arith
+
+    pub whole-room : t ≡ All → length piece ≤ w .at + keptRoom
+    whole-room k = let q = at-whole k .1 in omega arith
 
     left-strange : t ≡ Strange → (base : ℕ) → record { offset = base + w .at; kept = drop (length piece) piece; stopped = true } ≡ leftBy base piece e
     left-strange k base =
         let q : e ≡ unknownAt (w .at) = strange-end (length piece) e (sym stop-is ∙ k) ∙ ap unknownAt (sym at-is) in
-        ap (λ (l : List ℕ). record { offset = base + w .at; kept = l; stopped = true }) (drop-of-length-le piece (omega arith)) ∙ ap (leftBy base piece) (sym q)
+        ap (λ (l : List ℕ). record { offset = base + w .at; kept = l; stopped = true }) (drop-of-length-le piece {i = length piece} (omega arith)) ∙ ap (leftBy base piece) (sym q)
 
     left-cut : t ≡ Short → (base : ℕ) → record { offset = base + w .at; kept = drop (w .at) piece; stopped = false } ≡ leftBy base piece e
     left-cut k base = ap (leftBy base piece) (sym (at-cut k))
@@ -161,17 +172,17 @@ module _ (piece : List ℕ) (from : ℕ) {w : Survey} (h : w ≡ surveyed (lengt
     left-whole : t ≡ All → (base : ℕ) → record { offset = base + w .at; kept = drop (w .at) piece; stopped = false } ≡ leftBy base piece e
     left-whole k base =
         let q = at-whole k in
-        ap₂ (λ (o : ℕ) (l : List ℕ). record { offset = base + o; kept = l; stopped = false }) (q .1) (drop-of-length-le piece (omega (arith, q .1)))
+        ap₂ (λ (o : ℕ) (l : List ℕ). record { offset = base + o; kept = l; stopped = false }) (q .1) (drop-of-length-le piece {i = w .at} (omega (arith, q .1)))
         ∙ ap (leftBy base piece) (sym (q .0))
 
 -- ---- the answers of `feed_whole`
 
-module _ {head piece : List ℕ} {from : ℕ} {v w : Survey} (g : v ≡ surveyed (length head) (parse head))
-    (h : w ≡ surveyed (length piece) (parseFrom piece from)) {t : Stop} (is : t ≡ w .stop) {p : List ℕ} (enough : v .room + w .room ≤ length p)
-    {z : Shape} {s s₁ p₁ : List ℕ} {m : ℕ} (a : Runs z s s₁ (parseFrom head 0 .requests) p p₁ 0 m)
-    {s₂ p₂ : List ℕ} {n : ℕ} (b : Runs z s₁ s₂ (parseFrom piece from .requests) p₁ p₂ m n) (base : ℕ) {c c′ : List ℕ} where
+module _ (head piece : List ℕ) (from : ℕ) {v w : Survey} (g : v ≡ surveyed (length head) (parse head))
+    (h : w ≡ surveyed (length piece) (parseFrom piece from)) {t : Stop} (is : t ≡ w .stop) (p : List ℕ) (enough : v .room + w .room ≤ length p)
+    {z : Shape} {s s₂ p₂ : List ℕ} {n : ℕ} (a : Runs z s s₂ (parse head .requests ++ parseFrom piece from .requests) p p₂ 0 n)
+    (base : ℕ) {c c′ : List ℕ} where
   ran : {k l : Carry} → k ≡ l → CarryPut c k c′ → FedRan z s s₂ c c′ p p₂ (parse head .requests ++ parseFrom piece from .requests) l n
-  ran {k} {l} q u = whole-ran head piece from g h enough a b l (subst (λ (x : Carry). CarryPut c x c′) q u)
+  ran {k} {l} q u = record { runs = a; room = omega (arith, rooms head piece from g h); put = subst (λ (x : Carry). CarryPut c x c′) q u .is }
 
   pub whole-stopped : t ≡ Strange → CarryPut c (record { offset = base + w .at; kept = drop (length piece) piece; stopped = true }) c′
       → FedOn z s s₂ c c′ p p₂ (parse head .requests ++ parseFrom piece from .requests) (leftBy base piece (parseFrom piece from .end)) (Stopped n (base + w .at))
@@ -188,6 +199,20 @@ module _ {head piece : List ℕ} {from : ℕ} {v w : Survey} (g : v ≡ surveyed
   whole-done k u = let q = left-whole piece from h is k base in record { fed = (ap (λ (x : Carry). x .stopped) (sym q), ran q u) }
 
 -- ---- the answers of `feed_going`
+
+module _ {bs : List ℕ} {o n : ℕ} (b : Brings bs (Going o n)) where
+  pub brings-long : carryBytes ≤ length bs
+  brings-long = lent.going-long b refl
+
+  pub brings-few : n ≤ mostKept
+  brings-few = lent.going-few b refl
+
+  pub brings-waits : waits (spotAt (keptIn bs n) 0) ≡ true
+  brings-waits = lent.going-waits b refl
+
+-- the buffer has the bytes of one record
+pub part-few : (m : ℕ) (head : List ℕ) → length head ≡ headBytes → length (take (m - 0) head) ≤ headBytes
+part-few m head h = omega (arith, length-take (m - 0) head)
 
 -- no request was carried out
 none-ran : {z : Shape} {s p c c′ : List ℕ} {k : Carry} → Held z s → CarryPut c k c′ → FedRan z s s c c′ p p [] k 0
@@ -234,7 +259,7 @@ module _ {bs : List ℕ} {o n : ℕ} (b : Brings bs (Going o n)) {piece head : L
       → FedOn z s s bs bs′ p p (parse all .requests) (leftBy o all (parse all .end)) (Stopped 0 o)
   going-unknown is {z} {s} {p} {bs′} h u =
       let q : record { offset = o; kept = drop (length piece) piece; stopped = true } ≡ leftBy o all (unknownAt 0) =
-      ap₂ (λ (i : ℕ) (x : List ℕ). record { offset = i; kept = x; stopped = true }) (sym (add-zero o)) (drop-of-length-le piece (omega arith)) in
+      ap₂ (λ (i : ℕ) (x : List ℕ). record { offset = i; kept = x; stopped = true }) (sym (add-zero o)) (drop-of-length-le piece {i = length piece} (omega arith)) in
       subst (λ (x : Parsed Request). FedOn z s s bs bs′ p p (x .requests) (leftBy o all (x .end)) (Stopped 0 o)) (sym (j .unknown is))
       (record { fed = (refl, add-zero o, none-ran h (subst (λ (x : Carry). CarryPut bs x bs′) q u)) })
 
@@ -244,17 +269,17 @@ module _ {bs : List ℕ} {o n : ℕ} (b : Brings bs (Going o n)) {piece head : L
     whole-part = j .whole m is .fits
 
     pub whole-begun : n ≤ m
-    whole-begun = let c = j .whole m is .begun in omega (arith, going-kept b refl)
+    whole-begun = let c = j .whole m is .begun in omega (arith, lent.going-kept b refl)
 
     pub whole-in : m - n ≤ length piece
-    whole-in = let c = j .whole m is .within in omega (arith, going-kept b refl)
+    whole-in = let c = j .whole m is .within in omega (arith, lent.going-kept b refl)
 
     pub going-whole : {z : Shape} {s s′ bs′ p p′ : List ℕ} {a : Fed}
         → FedOn z s s′ bs bs′ p p′ (parse (take (m - 0) head) .requests ++ parseFrom piece (m - n) .requests) (leftBy (o + n) piece (parseFrom piece (m - n) .end)) a
         → FedOn z s s′ bs bs′ p p′ (parse all .requests) (leftBy o all (parse all .end)) a
     going-whole {z} {s} {s′} {bs′} {p} {p′} {a} f =
         let c = j .whole m is in
-        let k : length (keptIn bs n) ≡ n = going-kept b refl in
+        let k : length (keptIn bs n) ≡ n = lent.going-kept b refl in
         let x : parse (take (m - 0) head) .requests ++ parseFrom piece (m - n) .requests ≡ parse all .requests =
         ap₂ (λ (i l : ℕ). parse (take i head) .requests ++ parseFrom piece (m - l) .requests) (sub-zero m) (sym k) ∙ sym (c .requests) in
         let y : leftBy (o + n) piece (parseFrom piece (m - n) .end) ≡ leftBy o all (parse all .end) =
@@ -335,11 +360,14 @@ module _ {z : Shape} {s : List ℕ} (l : storeBytes ≤ length s) (h : Held z s)
     abbrev going : Carry
     going = record { offset = o; kept = keptIn c n; stopped = false }
 
+    pub going-sub : n ≤ lastOffset - o
+    going-sub = let f = lent.going-ends going-brings refl in omega arith
+
     pub going-over : lastOffset - o - n < length q → FedAs s c q p (Refused BadCarry) s c p
     unfolding feed
     going-over m =
-        let k = going-kept going-brings refl in
-        let f = going-ends going-brings refl in
+        let k = lent.going-kept going-brings refl in
+        let f = lent.going-ends going-brings refl in
         record {
           store = reads (stateIn z s);
           store-is = (l, held-holds h);
@@ -351,10 +379,10 @@ module _ {z : Shape} {s : List ℕ} (l : storeBytes ≤ length s) (h : Held z s)
 
     module _ (m : length q ≤ lastOffset - o - n) where
       pub going-within : o + n + length q ≤ lastOffset
-      going-within = let f = going-ends going-brings refl in omega arith
+      going-within = let f = lent.going-ends going-brings refl in omega arith
 
       fits : o + length (keptIn c n) + length q ≤ lastOffset
-      fits = let k = going-kept going-brings refl in let g = going-within in omega arith
+      fits = let k = lent.going-kept going-brings refl in let g = going-within in omega arith
 
       pub going-long : mostRequestBytes < length q → FedAs s c q p (Refused LongRequests) s c p
       unfolding feed
@@ -368,80 +396,76 @@ module _ {z : Shape} {s : List ℕ} (l : storeBytes ≤ length s) (h : Held z s)
             untouched = λ u. refl;
           }
 
-      module _ (m : length q ≤ mostRequestBytes) {s′ c′ p′ : List ℕ} where
-        abbrev asked : List Request
-        asked = parse (keptIn c n ++ q) .requests
+      abbrev asked : List Request
+      asked = parse (keptIn c n ++ q) .requests
 
-        abbrev next : Carry
-        next = leftBy o (keptIn c n ++ q) (parse (keptIn c n ++ q) .end)
+      abbrev next : Carry
+      next = leftBy o (keptIn c n ++ q) (parse (keptIn c n ++ q) .end)
 
-        σ : State
-        σ = stateIn z s
-
+      module _ (few : length q ≤ mostRequestBytes) {s′ c′ p′ : List ℕ} where
         -- what was carried out
-        settled : {k : ℕ} → FedRan z s s′ c c′ p p′ asked next k → Settled s s′ (run σ asked .state)
-        unfolding σ
+        settled : {k : ℕ} → FedRan z s s′ c c′ p p′ asked next k → Settled s s′ (run (stateIn z s) asked .state)
         settled x =
-            let y : z ≡ shapeFor (run σ asked .state .limits) =
+            let y : z ≡ shapeFor (run (stateIn z s) asked .state .limits) =
             x .runs .held .keeps .shaped ∙ ap shapeFor (sym (limits-shown z s′) ∙ ap (λ (τ : State). τ .limits) (x .runs .carried .state)) in
             let u : drop (used z) s′ ≡ drop (used z) s = sym (cols-rest z s′) ∙ x .runs .rest ∙ cols-rest z s in
             record { holds = rw (x .runs .carried .state) at (held-holds (x .runs .held)); surplus = rw y at u; same-length = x .runs .same }
 
-        written : {k : ℕ} → FedRan z s s′ c c′ p p′ asked next k → let bs : List ℕ = encodeAll (run σ asked .replies) in (k ≡ length bs) × (p′ ≡ bs ++ drop (length bs) p)
-        unfolding splice σ
+        written : {k : ℕ} → FedRan z s s′ c c′ p p′ asked next k → let bs : List ℕ = encodeAll (run (stateIn z s) asked .replies) in (k ≡ length bs) × (p′ ≡ bs ++ drop (length bs) p)
+        unfolding splice
         written x =
             let bs : List ℕ = encodeAll (run (stateIn z s) asked .replies) in
             (x .runs .carried .count ∙ zero-add (length bs), x .runs .carried .replies ∙ ap (λ (i : ℕ). bs ++ drop i p) (zero-add (length bs)))
 
         pub going-fed : (a : Fed) → FedOn z s s′ c c′ p p′ asked next a → FedAs s c q p a s′ c′ p′
-        unfolding feed feedOn completed σ
+        unfolding feed feedOn completed
         going-fed (Refused t) f =
             let x = f .fed in
             record {
-              store = reads σ;
+              store = reads (stateIn z s);
               store-is = (l, held-holds h);
               carry = carries going;
               carry-is = going-brings .is;
               leaves = rw (
                 le-ltb lastOffset (o + length (keptIn c n) + length q) fits,
-                le-ltb mostRequestBytes (length q) m,
+                le-ltb mostRequestBytes (length q) few,
                 lt-ltb (length p) (roomFor asked) (x .1),
               )
-              (ap (λ (t : Turned). turned (numberOf t) (detailOf t)) (x .0), x .2, x .3, x .4);
+                  (ap (λ (t : Turned). turned (numberOf t) (detailOf t)) (x .0), x .2, x .3, x .4);
               untouched = λ u. x .2;
             }
         going-fed (Done k) f =
             let x = f .fed .1 in
             let y = written x in
             record {
-              store = reads σ;
+              store = reads (stateIn z s);
               store-is = (l, held-holds h);
               carry = carries going;
               carry-is = going-brings .is;
               leaves = rw (
                 le-ltb lastOffset (o + length (keptIn c n) + length q) fits,
-                le-ltb mostRequestBytes (length q) m,
+                le-ltb mostRequestBytes (length q) few,
                 le-ltb (length p) (roomFor asked) (x .room),
                 f .fed .0,
               )
-              (ap (λ (i : ℕ). gave i) (y .0), settled x, x .put, y .1);
+                  (ap (λ (i : ℕ). gave i) (y .0), settled x, x .put, y .1);
               untouched = x .runs .untouched;
             }
         going-fed (Stopped k i) f =
             let x = f .fed .2 in
             let y = written x in
             record {
-              store = reads σ;
+              store = reads (stateIn z s);
               store-is = (l, held-holds h);
               carry = carries going;
               carry-is = going-brings .is;
               leaves = rw (
                 le-ltb lastOffset (o + length (keptIn c n) + length q) fits,
-                le-ltb mostRequestBytes (length q) m,
+                le-ltb mostRequestBytes (length q) few,
                 le-ltb (length p) (roomFor asked) (x .room),
                 f .fed .0,
               )
-              (ap₂ (λ (a b : ℕ). halted a b) (y .0) (sym (f .fed .1)), settled x, x .put, y .1);
+                  (ap₂ (λ (a b : ℕ). halted a b) (y .0) (sym (f .fed .1)), settled x, x .put, y .1);
               untouched = x .runs .untouched;
             }
 
@@ -464,7 +488,7 @@ module _ {c : List ℕ} {r : Brought} (b : Brings c r) where
 
     pub finish-cut : (n ≡ 0 → ⊥) → FinishAs c (Broken (BadRecord o))
     finish-cut d =
-        let k = going-kept here refl in
+        let k = lent.going-kept here refl in
         record {
           carry = carries (record { offset = o; kept = keptIn c n; stopped = false });
           carry-is = here .is;

@@ -159,8 +159,8 @@ said-kind c n = go (c .stopped)
     go false = tt
 
 -- an answer with reply bytes is no refusal
-pub goes-not : (c : Carry) {n m d : ℕ} → saidWith c n ≡ turned m d → ⊥
-goes-not c {n} e = subst Kind e (said-kind c n)
+pub goes-not : (c : Carry) (n : ℕ) {m d : ℕ} → saidWith c n ≡ turned m d → ⊥
+goes-not c n e = subst Kind e (said-kind c n)
 
 follows-feed-once : (v : Verdict Onward) (a b : Said) (s s₁ s₂ c c₁ c₂ p p₁ p₂ : List ℕ) → FollowsFeed v a s s₁ c c₁ p p₁ → FollowsFeed v b s s₂ c c₂ p p₂
     → (a ≡ b) × (c₁ ≡ c₂) × (p₁ ≡ p₂) × Agrees a s₁ s₂

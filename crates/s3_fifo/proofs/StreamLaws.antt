@@ -57,8 +57,8 @@ stream-gives {s} {c} {σ = σ} {k = k} h b x (feeds {q = q} {s₁ = s₁} {c₁ 
     }
 
 -- the bytes of the carried record are what is carried and the surplus
-record-bytes : {c c′ : List ℕ} {k : Carry} → CarryAs c′ k → drop carryBytes c′ ≡ drop carryBytes c → c′ ≡ carryWritten k ++ drop carryBytes c
-record-bytes {c} {c′} x e = sym (take-append-drop carryBytes c′) ∙ ap₂ (λ (y z : List ℕ). y ++ z) (x .written) e
+record-bytes : (c : List ℕ) {c′ : List ℕ} {k : Carry} → CarryAs c′ k → drop carryBytes c′ ≡ drop carryBytes c → c′ ≡ carryWritten k ++ drop carryBytes c
+record-bytes c {c′} x e = sym (take-append-drop carryBytes c′) ∙ ap₂ (λ (y z : List ℕ). y ++ z) (x .written) e
 
 -- ---- any cutting
 
@@ -67,7 +67,7 @@ one-stream {s} {c} {bs₁} {bs₂} {s₁} {s₂} {c₁} {c₂} {v} {w} e a b =
     let d : Given s c w bs₁ s₁ c₁ = subst (λ (f : Flow). Given s c f bs₁ s₁ c₁) e a in
     record {
       replies = d .replies ∙ sym (b .replies);
-      carries = record-bytes (d .next) (d .surplus) ∙ sym (record-bytes (b .next) (b .surplus));
+      carries = record-bytes c (d .next) (d .surplus) ∙ sym (record-bytes c (b .next) (b .surplus));
       stores = alike-holds (d .holds) (b .holds) (d .same-length ∙ sym (b .same-length));
     }
 

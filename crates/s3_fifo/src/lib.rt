@@ -149,6 +149,24 @@ fn run_sound(store: &mut [u8], z: Shape, requests: &[u8], replies: &mut [u8]) ->
     }
 }
 
+// Carries out the requests of what stands in front of a piece, and then those of the piece from `from` on.
+fn run_both(
+    store: &mut [u8],
+    z: Shape,
+    head: &[u8],
+    piece: &[u8],
+    from: usize,
+    replies: &mut [u8],
+) -> usize
+    requires { ⌜ Held z (now store) ⌝ }
+    requires { ⌜ HasRoom (parse (now head) .requests ++ parseFrom (now piece) from .requests) (now replies) 0 ⌝ }
+    ensures { λ r. ⌜ Runs z (now (store .entry)) (now (store .exit)) (parse (now (head .entry)) .requests ++ parseFrom (now (piece .entry)) from .requests)
+        (now (replies .entry)) (now (replies .exit)) 0 r ⌝ }
+{
+    let middle = run_from(store, z, head, 0, replies, 0);
+    run_from(store, z, piece, from, replies, middle)
+}
+
 // A feed of what stands in front of a piece, a whole record or nothing, and of the piece from `from` on. The piece's first byte has the offset `base`.
 fn feed_whole(
     store: &mut [u8],
@@ -172,8 +190,7 @@ fn feed_whole(
     if replies.len() < room {
         return Fed::Refused(Turned::NoRoom(room as u64));
     }
-    let middle = run_from(store, z, head, 0, replies, 0);
-    let out = run_from(store, z, piece, from, replies, middle);
+    let out = run_both(store, z, head, piece, from, replies);
     let end = base + rest.at as u64;
     let stop = rest.stop;
     match stop {

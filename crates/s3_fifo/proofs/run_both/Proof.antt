@@ -1,0 +1,16 @@
+-- `s3_fifo::run_both` meets its contract.
+-- Assumes nothing.
+use borrow.Author.Needs.{needs}
+use Rattle.s3_fifo.proofs.FeedLaws.{head-ready, piece-ready, both-ran}
+use Rattle.s3_fifo.proofs.run_both.Statement.{statement}
+use Rattle.s3_fifo.proofs.run_both.Tie as tie
+
+pub run-both-spec : {M : Type 1} → statement M
+run-both-spec =
+    tie.close
+    (tie.spec
+    (λ c κs. (search needs, search head-ready))
+    (λ c κs. (search needs, search piece-ready))
+    (λ c. search needs)
+    (λ c. search needs)
+    (λ c. search both-ran))

@@ -6,15 +6,14 @@ use mathlib.Core.List.{List, _∷_, _++_, append-nil}
 use Prim.Native.Nat.{ℕ, zero, suc, _+_, _-_, _%_, _≤_}
 use native.Mathlib.Nat.{sub-zero, zero-sub, suc-sub-suc}
 use native.Mathlib.Omega.{arith}
-use lib.ListN.{length, take, drop, replicate, length-append, length-drop}
-use lib.Seq.{take-all, take-length, take-at}
+use lib.ListN.{length, take, drop, replicate, length-drop}
+use lib.Seq.{take-all, take-length}
 use mir.Val.{boolByte}
 use Rattle.cells.specs.Cells.{putLe}
 use Rattle.cells.specs.Decides.{Decides}
 use Rattle.rules.specs.Parts.{bit}
 use Rattle.rules.specs.Bytes.{bytesOf}
-use Rattle.rules.specs.Carry.{Carry, couldLeave, carryBytes, keptRoom, carryWritten, CarryAs}
-use Rattle.rules.proofs.CarryLaws.{could-few, carry-length}
+use Rattle.rules.specs.Carry.{Carry, carryBytes, keptRoom, carryWritten}
 use Rattle.carry.specs.Carries.{keptIn, LaidOut, FormOf, CarryPut}
 
 -- ---- laid out over zeros
@@ -80,13 +79,6 @@ pub put-front : {c : Carry} {form before after : List ℕ} → LaidOut c form �
     → after ≡ take (length form) form ++ drop (length form) before → CarryPut before c after
 put-front {c} {form} {before} l n e =
     record { is = e ∙ ap₂ (λ (x y : List ℕ). x ++ y) (take-length form ∙ l .is) (ap (λ (k : ℕ). drop k before) n) }
-
--- what was put is read: a record that a feed could have left is what the bytes lent carry from then on
-pub put-carried : {before after : List ℕ} {c : Carry} → CarryPut before c after → carryBytes ≤ length before → couldLeave c ≡ true → CarryAs after c
-put-carried {before} {after} {c} p h l =
-    let n : length (carryWritten c) ≡ carryBytes = carry-length c (omega (arith, could-few c l)) in
-    let all = ap length (p .is) ∙ length-append (carryWritten c) (drop carryBytes before) in
-    record { long = omega arith; written = ap (take carryBytes) (p .is) ∙ take-at (carryWritten c) (drop carryBytes before) carryBytes n; could = l }
 
 -- ---- compared with the bytes lent
 

@@ -2,7 +2,7 @@
 -- Assumes nothing.
 use mathlib.Core.Path.{_≡_, refl, sym, ap, ap₂, _∙_, subst}
 use mathlib.Core.Bool.{Bool, true, false, cond, _||_}
-use mathlib.Core.List.{List, [], _++_}
+use mathlib.Core.List.{List, [], _∷_, _++_}
 use Prim.Native.Nat.{ℕ, zero, suc, _≤_}
 use native.Mathlib.Omega.{arith}
 use lib.Dec.{eqb, ltb}
@@ -27,7 +27,7 @@ use Rattle.s3_fifo.specs.declared.Fed.{Fed}
 use Rattle.s3_fifo.specs.declared.Fed.the-variants.{Done as Given, Stopped, Refused as Away}
 use Rattle.s3_fifo.specs.declared.Finish.{Finish}
 use Rattle.s3_fifo.specs.Feeds.{fedSays, finishSays, repliesIn, carriedOut}
-use Rattle.s3_fifo.specs.Streams.{Goes, Stream, over, feeds}
+use Rattle.s3_fifo.specs.Streams.{NotTurned, Stream, over, feeds}
 use Rattle.s3_fifo.specs.Calls.{Said, gave, halted, turned, createdSays, ranSays, Follows, Created, Called}
 use Rattle.s3_fifo.specs.Once.{Agrees}
 use Rattle.s3_fifo.specs.Chains.{Chain, start, accepted, refused, fed}
@@ -223,15 +223,15 @@ minus-negative zero h = absurd (omega arith)
 minus-negative (suc n) h = tt
 
 -- a code that is not below 0, or is 9's, goes on
-code-goes : (a : Said) {m : ℤ} → m ≡ codeOf a → (Negative m → m ≡ negℤ (pos 9)) → Numbered· a → Goes a
+code-goes : (a : Said) {m : ℤ} → m ≡ codeOf a → (Negative m → m ≡ negℤ (pos 9)) → Numbered· a → NotTurned a
 code-goes (gave n) e g h = tt
 code-goes (halted n d) e g h = tt
 code-goes (turned n d) {m} e g h = sym (below-minus n) ∙ ap below (sym e ∙ g (subst Negative (sym e) (minus-negative n h)))
 
 streamed : {s c bs s′ c′ : List ℕ} {ps : List (List ℕ)} → Streamed s c ps bs s′ c′ → Stream s c ps bs s′ c′
 streamed over· = over
-streamed (feeds· {p₁ = p₁} {bs = bs} {s′ = s′} {c′ = c′} {ps = ps} f g t) =
-    subst (λ (i : ℕ). Stream _ _ _ (take i p₁ ++ bs) s′ c′) (sym (f .replied-is))
+streamed (feeds· {s = s} {c = c} {q = q} {p₁ = p₁} {bs = bs} {s′ = s′} {c′ = c′} {ps = ps} f g t) =
+    subst (λ (i : ℕ). Stream s c (q ∷ ps) (take i p₁ ++ bs) s′ c′) (sym (f .replied-is))
     (feeds (f .fed) (code-goes (fedSays (f .answer)) (f .code-is) g (numbered-fed (f .answer))) (streamed t))
 
 pub exported : Exported

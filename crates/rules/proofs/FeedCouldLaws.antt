@@ -20,7 +20,8 @@ use Rattle.rules.specs.Parts.{null}
 use Rattle.rules.specs.State.{Limits, State, emptyAt, Sound}
 use Rattle.rules.specs.Records.{Request, CL}
 use Rattle.rules.specs.Requests.{run, apply}
-use Rattle.rules.specs.Bytes.{row, table, find, Spot, at, unknown, cut, over, within, spotAt, Reading, ask, strange, short, end, reading, readAt, End, whole, unknownAt, cutAt, Parsed, onReading, walk, parseFrom, parse, roomFor, encodeAll}
+use Rattle.rules.specs.Bytes.{row, table, find, Spot, at, unknown, cut, over, within, spotAt, Reading, ask, strange, short, end, reading, readAt}
+use Rattle.rules.specs.Bytes.{End, whole, unknownAt, cutAt, Parsed, onReading, walk, parseFrom, parse, roomFor, encodeAll}
 use Rattle.rules.specs.Refusals.{mostRequestBytes}
 use Rattle.rules.specs.Verdict.{Verdict, refused, done, turnedAway, unless, reads}
 use Rattle.rules.specs.Carry.{Carry, opening, leftBy, lastOffset, waits, even, couldStop, couldWait, couldLeave, carries}
@@ -89,7 +90,8 @@ module _ (s : List ℕ) where
   ends-at zero i h g =
       subst (λ (p : Parsed Request). Ends s i (p .end)) (sym (parse-step s i)) (ends-step i h (λ after l k. absurd (omega arith)) (readAt s i) refl (spots s i))
   ends-at (suc m) i h g =
-      subst (λ (p : Parsed Request). Ends s i (p .end)) (sym (parse-step s i)) (ends-step i h (λ after l k. ends-at m after k (omega arith)) (readAt s i) refl (spots s i))
+      subst (λ (p : Parsed Request). Ends s i (p .end)) (sym (parse-step s i))
+      (ends-step i h (λ after l k. ends-at m after k (omega arith)) (readAt s i) refl (spots s i))
 
   pub parse-ends-from : (i : ℕ) → i ≤ length s → Ends s i (parseFrom s i .end)
   parse-ends-from i h = ends-at (length s) i h (omega arith)
@@ -123,7 +125,8 @@ left-could o s (unknownAt c) h l f =
     let b = f .1 in
     and-true _ _ (even-true (o + c) (omega (arith, f .0))) (le-leb (o + c + 2) lastOffset (omega arith))
 
-pub feed-could : (σ : State) (c : Carry) (piece : List ℕ) → couldLeave c ≡ true → runsOver c (length piece) ≡ false → couldLeave (feedOn σ c piece .carry) ≡ true
+pub feed-could : (σ : State) (c : Carry) (piece : List ℕ) → couldLeave c ≡ true → runsOver c (length piece) ≡ false
+    → couldLeave (feedOn σ c piece .carry) ≡ true
 unfolding feedOn couldLeave
 feed-could σ c piece h r = go (c .stopped) refl
   where
@@ -136,7 +139,8 @@ feed-could σ c piece h r = go (c .stopped) refl
         let s = c .kept ++ piece in
         let n = length-append (c .kept) piece in
         let r′ : ltb lastOffset (c .offset + length (c .kept) + length piece) ≡ false = rw e at r in
-        left-could (c .offset) s (parse s .end) (eqb-true (c .offset % 2) 0 (parts .0)) (omega (arith, ltb-false lastOffset (c .offset + length (c .kept) + length piece) r′)) (parse-ends s)
+        left-could (c .offset) s (parse s .end) (eqb-true (c .offset % 2) 0 (parts .0))
+        (omega (arith, ltb-false lastOffset (c .offset + length (c .kept) + length piece) r′)) (parse-ends s)
 
 -- ---- what passes is left by feeds that are accepted
 
@@ -174,7 +178,8 @@ clear-bytes (suc zero) = omega arith
 clear-bytes (suc (suc zero)) = omega arith
 clear-bytes (suc (suc (suc j))) = omega arith
 
-clear-fed : (o : ℕ) → o % 2 ≡ 0 → o + 2 ≤ lastOffset → feed (reads (emptyAt least)) (carries (waiting o [])) clears 2 ≡ left (emptyAt least) (waiting (o + 2) []) (79 ∷ 75 ∷ [])
+clear-fed : (o : ℕ) → o % 2 ≡ 0 → o + 2 ≤ lastOffset
+    → feed (reads (emptyAt least)) (carries (waiting o [])) clears 2 ≡ left (emptyAt least) (waiting (o + 2) []) (79 ∷ 75 ∷ [])
 unfolding feed feedOn completed parse parseFrom walk readAt spotAt find table le run apply roomFor encodeAll
 clear-fed o h l =
     accepted (waiting o []) 2 (CL ∷ []) 2 _ (le-ltb lastOffset (o + 0 + 2) (omega arith)) (omega arith) refl (omega arith)
@@ -207,7 +212,8 @@ pub cut-parse : (s : List ℕ) → spotAt s 0 ≡ cut → parse s ≡ record { r
 unfolding parse readAt
 cut-parse s e = parse-step s 0 ∙ ap (onReading (parseFrom s) 0) (ap (reading s 0) e)
 
-kept-fed : (o : ℕ) (s : List ℕ) → o % 2 ≡ 0 → o + length s ≤ lastOffset → spotAt s 0 ≡ cut → feed (reads (emptyAt least)) (carries (waiting o [])) s 0 ≡ left (emptyAt least) (waiting (o + 0) s) []
+kept-fed : (o : ℕ) (s : List ℕ) → o % 2 ≡ 0 → o + length s ≤ lastOffset → spotAt s 0 ≡ cut
+    → feed (reads (emptyAt least)) (carries (waiting o [])) s 0 ≡ left (emptyAt least) (waiting (o + 0) s) []
 unfolding feed feedOn completed run roomFor encodeAll
 kept-fed o s h l e =
     rw (cut-parse s e)
@@ -222,7 +228,8 @@ nonsense-bytes (suc zero) = omega arith
 nonsense-bytes (suc (suc zero)) = omega arith
 nonsense-bytes (suc (suc (suc j))) = omega arith
 
-halt-fed : (o : ℕ) → o % 2 ≡ 0 → o + 2 ≤ lastOffset → feed (reads (emptyAt least)) (carries (waiting o [])) nonsense 0 ≡ left (emptyAt least) (halted (o + 0)) []
+halt-fed : (o : ℕ) → o % 2 ≡ 0 → o + 2 ≤ lastOffset
+    → feed (reads (emptyAt least)) (carries (waiting o [])) nonsense 0 ≡ left (emptyAt least) (halted (o + 0)) []
 unfolding feed feedOn completed parse parseFrom walk readAt spotAt find table run roomFor encodeAll
 halt-fed o h l =
     accepted (waiting o []) 2 [] 0 _ (le-ltb lastOffset (o + 0 + 2) (omega arith)) (omega arith) refl (omega arith)
@@ -235,14 +242,6 @@ pub over-nil : (s : List ℕ) → spotAt s 0 ≡ over → s ≡ []
 unfolding readAt
 over-nil [] e = refl
 over-nil (x ∷ s) e = let g = end-end (x ∷ s) 0 (ap (reading (x ∷ s) 0) e) in absurd (omega arith)
-
--- what a stream that goes on carries is a record that waits, or nothing
-pub could-wait : (c : Carry) → couldLeave c ≡ true → c .stopped ≡ false → waits (spotAt (c .kept) 0) ≡ true
-unfolding couldLeave
-could-wait c h e =
-    let p = and-both (even (c .offset)) (cond (c .stopped) (couldStop c) (couldWait c)) h .1 in
-    let w : couldWait c ≡ true = rw e at p in
-    and-both (waits (spotAt (c .kept) 0)) (leb (c .offset + length (c .kept)) lastOffset) w .0
 
 pub could-reach : (c : Carry) → Bytes (c .kept) → couldLeave c ≡ true → Reached c
 unfolding couldLeave
@@ -275,7 +274,8 @@ could-reach c b h = go (c .stopped) refl
         let p : couldStop c ≡ true = rw e at (parts .1) in
         let q = and-both (null (c .kept)) (leb (o + 2) lastOffset) p in
         let l = leb-true (o + 2) lastOffset (q .1) in
-        let r : Reached (halted o) = subst (λ (n : ℕ). Reached (halted n)) (add-zero o) (feeds nonsense 0 (from (omega arith)) least-sound nonsense-bytes (halt-fed o two l)) in
+        let f : Reached (halted (o + 0)) = feeds nonsense 0 (from (omega arith)) least-sound nonsense-bytes (halt-fed o two l) in
+        let r : Reached (halted o) = subst (λ (n : ℕ). Reached (halted n)) (add-zero o) f in
         subst Reached (λ i. record { offset = o; kept = sym (nothing-kept (c .kept) (q .0)) i; stopped = sym e i }) r
     go false e =
         let p : couldWait c ≡ true = rw e at (parts .1) in
@@ -317,7 +317,8 @@ cut-in : (s : List ℕ) (i : ℕ) → spotAt s i ≡ cut → i < length s
 unfolding spotAt
 cut-in s i e = pick (leb (length s) i) refl e
   where
-    pick : (t : Bool) → leb (length s) i ≡ t → cond t over (cond (ltb (length s - i) 2) cut (within (length s - i) (find (getD s i 0) (getD s (i + 1) 0) table))) ≡ cut → i < length s
+    pick : (t : Bool) → leb (length s) i ≡ t
+        → cond t over (cond (ltb (length s - i) 2) cut (within (length s - i) (find (getD s i 0) (getD s (i + 1) 0) table))) ≡ cut → i < length s
     pick true g e = let z : _≡_ {A = ℕ} 0 1 = cc in absurd (omega arith)
     pick false g e = leb-false (length s) i g
 

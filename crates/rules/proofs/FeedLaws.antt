@@ -19,9 +19,10 @@ use Rattle.rules.specs.declared.Row.{Row}
 use Rattle.rules.specs.State.{State}
 use Rattle.rules.specs.Records.{Request, GT, PK, RM, IN, Reply}
 use Rattle.rules.specs.Requests.{run}
-use Rattle.rules.specs.Bytes.{row, table, find, Spot, at, unknown, cut, over, within, spotAt, made, Reading, ask, strange, short, end, reading, readAt, End, whole, unknownAt, cutAt, Parsed, with, onReading, parseFrom, parse}
+use Rattle.rules.specs.Bytes.{row, table, find, Spot, at, unknown, cut, over, within, spotAt, made, Reading, ask, strange, short, end, reading, readAt}
+use Rattle.rules.specs.Bytes.{End, whole, unknownAt, cutAt, Parsed, with, onReading, parseFrom, parse}
 use Rattle.rules.specs.Carry.{Carry, leftBy}
-use Rattle.rules.specs.Feed.{flow, flowing, onCarry, feedOn, afterReplies, andThen, feedAll, glued}
+use Rattle.rules.specs.Feed.{Flow, flow, flowing, onCarry, feedOn, afterReplies, andThen, feedAll, glued}
 use Rattle.rules.proofs.ParseLaws.{Lies, spot-lies, read-goes, parse-step, spot-drop, made-drop}
 use Rattle.rules.proofs.LedgerLaws.{run-append}
 
@@ -60,7 +61,8 @@ spot-front a b i p e s = pick (leb (length a) i) refl (ltb (length a - i) 2) ref
     f = find (getD a i 0) (getD a (i + 1) 0) table
 
     pick : (t : Bool) → leb (length a) i ≡ t → (u : Bool) → ltb (length a - i) 2 ≡ u → cond t over (cond u cut (within (length a - i) f)) ≡ p
-        → cond (leb (length (a ++ b)) i) over (cond (ltb (length (a ++ b) - i) 2) cut (within (length (a ++ b) - i) (find (getD (a ++ b) i 0) (getD (a ++ b) (i + 1) 0) table))) ≡ p
+        → cond (leb (length (a ++ b)) i) over
+        (cond (ltb (length (a ++ b) - i) 2) cut (within (length (a ++ b) - i) (find (getD (a ++ b) i 0) (getD (a ++ b) (i + 1) 0) table))) ≡ p
     pick true g u h e = absurd (subst Settled (sym e) s)
     pick false g true h e = absurd (subst Settled (sym e) s)
     pick false g false h e =
@@ -87,7 +89,8 @@ read-front a b i r e s = go (spotAt a i) refl e
   where
     go : (p : Spot) → spotAt a i ≡ p → reading a i p ≡ r → reading (a ++ b) i (spotAt (a ++ b) i) ≡ r
     go (at k) h g =
-        ap (reading (a ++ b) i) (spot-front a b i (at k) h tt) ∙ ap (λ q. ask q (i + row k .bytes)) (made-front k a b i (subst (Lies a i) h (spot-lies a i))) ∙ g
+        ap (reading (a ++ b) i) (spot-front a b i (at k) h tt)
+        ∙ ap (λ q. ask q (i + row k .bytes)) (made-front k a b i (subst (Lies a i) h (spot-lies a i))) ∙ g
     go unknown h g = ap (reading (a ++ b) i) (spot-front a b i unknown h tt) ∙ g
     go cut h g = absurd (subst Firm (sym g) s)
     go over h g = absurd (subst Firm (sym g) s)
@@ -130,7 +133,8 @@ Fed a b i rs (unknownAt c) = parseFrom (a ++ b) i ≡ record { requests = rs; en
 
 module _ (a b : List ℕ) where
   -- one record more in front
-  fed-on : (i after : ℕ) (q : Request) (rs : List Request) (e : End) → parseFrom (a ++ b) i ≡ with q (parseFrom (a ++ b) after) → Fed a b after rs e → Fed a b i (q ∷ rs) e
+  fed-on : (i after : ℕ) (q : Request) (rs : List Request) (e : End) → parseFrom (a ++ b) i ≡ with q (parseFrom (a ++ b) after) → Fed a b after rs e
+      → Fed a b i (q ∷ rs) e
   fed-on i after q rs whole x f = x ∙ ap (with q) f
   fed-on i after q rs (cutAt c) x f = (f .0, x ∙ ap (with q) (f .1))
   fed-on i after q rs (unknownAt c) x f = x ∙ ap (with q) f
@@ -147,7 +151,8 @@ module _ (a b : List ℕ) where
 
   fed-at : (m i : ℕ) → i ≤ length a → length a ≤ i + m → Fed a b i (parseFrom a i .requests) (parseFrom a i .end)
   fed-at zero i h g =
-      subst (λ (p : Parsed Request). Fed a b i (p .requests) (p .end)) (sym (parse-step a i)) (fed-step i h (λ after l k. absurd (omega arith)) (readAt a i) refl)
+      subst (λ (p : Parsed Request). Fed a b i (p .requests) (p .end)) (sym (parse-step a i))
+      (fed-step i h (λ after l k. absurd (omega arith)) (readAt a i) refl)
   fed-at (suc m) i h g =
       subst (λ (p : Parsed Request). Fed a b i (p .requests) (p .end)) (sym (parse-step a i))
       (fed-step i h (λ after l k. fed-at m after k (omega arith)) (readAt a i) refl)
@@ -190,7 +195,8 @@ module _ (n : ℕ) (s : List ℕ) where
   turn i ih short e = refl
   turn i ih end e = refl
 
-  no-more : (i : ℕ) → length s ≤ n + i → (r : Reading Request) → readAt (drop n s) i ≡ r → onReading (parseFrom s) (n + i) (shiftReading n r) ≡ shift n (onReading (parseFrom (drop n s)) i r)
+  no-more : (i : ℕ) → length s ≤ n + i → (r : Reading Request) → readAt (drop n s) i ≡ r
+      → onReading (parseFrom s) (n + i) (shiftReading n r) ≡ shift n (onReading (parseFrom (drop n s)) i r)
   no-more i h (ask q after) e = absurd (omega (arith, read-goes (drop n s) i q after e, length-drop n s))
   no-more i h strange e = refl
   no-more i h short e = refl
@@ -233,7 +239,9 @@ module _ (σ : State) (o : ℕ) (a b : List ℕ) where
   unfolding parse
   parts rs whole f = goes-on rs (length a) b (drop-append-seam a b) (omega arith) f
   parts rs (cutAt c) f = goes-on rs c (drop c a ++ b) (drop-append-le c a b (f .0)) (f .0) (f .1)
-  parts rs (unknownAt c) f = ap (flowing σ o (a ++ b)) f ∙ ap (λ (l : List Reply). record { state = run σ rs .state; replies = l; carry = leftBy o a (unknownAt c) }) (sym (append-nil (run σ rs .replies)))
+  parts rs (unknownAt c) f =
+      let stops : List Reply → Flow = λ l. record { state = run σ rs .state; replies = l; carry = leftBy o a (unknownAt c) } in
+      ap (flowing σ o (a ++ b)) f ∙ ap stops (sym (append-nil (run σ rs .replies)))
 
 pub feed-two : (σ : State) (c : Carry) (a b : List ℕ) → feedOn σ c (a ++ b) ≡ andThen (feedOn σ c a) (λ τ d. feedOn τ d b)
 unfolding feedOn

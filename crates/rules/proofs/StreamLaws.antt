@@ -3,14 +3,15 @@
 use Prim.Native.Nat.{ℕ, zero, suc, _+_, _*_, _≤_, _<_}
 use native.Mathlib.Omega.{arith}
 use native.Mathlib.Nat.{add-zero}
-use mathlib.Core.Path.{_≡_, refl, sym, ap, ap₂, _∙_, subst}
+use mathlib.Core.Path.{_≡_, refl, sym, ap, _∙_, subst}
 use mathlib.Core.Bool.{Bool, true, false, cond}
 use mathlib.Core.List.{List, [], _∷_, _++_, append-nil}
 use lib.ListN.{length, drop, length-append, length-drop}
 use Rattle.rules.specs.State.{State}
 use Rattle.rules.specs.Records.{Request}
 use Rattle.rules.specs.Requests.{run}
-use Rattle.rules.specs.Bytes.{Spot, at, unknown, cut, over, spotAt, Reading, ask, strange, short, end, reading, readAt, End, whole, unknownAt, cutAt, Parsed, ends, onReading, walk, parseFrom, parse}
+use Rattle.rules.specs.Bytes.{Spot, at, unknown, cut, over, spotAt, Reading, ask, strange, short, end, reading, readAt}
+use Rattle.rules.specs.Bytes.{End, whole, unknownAt, cutAt, Parsed, onReading, walk, parseFrom, parse}
 use Rattle.rules.specs.Bytes.{roomOf, roomFor}
 use Rattle.rules.specs.Carry.{Carry, waits, couldLeave, carries}
 use Rattle.rules.specs.Feed.{still, flow, flowing, onCarry, feedOn, feedAll, glued, completed, completedOf}
@@ -18,8 +19,8 @@ use Rattle.rules.proofs.TableLaws.{row-bytes, room-made}
 use Rattle.rules.proofs.ParseLaws.{read-goes, parse-step, spot-drop}
 use Rattle.rules.proofs.PartsLaws.{total-append}
 use Rattle.rules.proofs.FeedLaws.{feed-glued}
-use Rattle.rules.proofs.FeedCouldLaws.{Ends, parse-ends-from, cut-short, could-wait, over-nil, cut-parse}
-use Rattle.rules.proofs.CarryLaws.{could-few}
+use Rattle.rules.proofs.FeedCouldLaws.{Ends, parse-ends-from, cut-short, over-nil, cut-parse}
+use Rattle.rules.proofs.CarryLaws.{could-wait, could-few}
 
 -- ---- a feed of nothing
 
@@ -45,7 +46,7 @@ feed-nothing σ c h = go (c .stopped) refl
     go true e = refl
     go false e =
         ap (λ (l : List ℕ). flowing σ (c .offset) l (parse l)) (append-nil (c .kept))
-        ∙ waiting-still σ (c .offset) (c .kept) (spotAt (c .kept) 0) refl (could-wait c h e)
+        ∙ waiting-still σ (c .offset) (c .kept) (spotAt (c .kept) 0) refl (could-wait c h e .0)
         ∙ ap (λ (t : Bool). still σ (record { offset = c .offset; kept = c .kept; stopped = t })) (sym e)
 
 -- ---- a feed carries out what it completes

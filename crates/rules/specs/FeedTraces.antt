@@ -4,9 +4,9 @@
 use mathlib.Core.Path.{_≡_}
 use mathlib.Core.Bool.{true, false}
 use mathlib.Core.List.{List, [], _∷_, _++_, map}
-use Prim.Native.Nat.{ℕ, _-_, _^_}
+use Prim.Native.Nat.{ℕ, suc, _-_, _^_}
 use lib.ListN.{take, drop, replicate}
-use Rattle.rules.specs.State.{Entry, State, emptyAt}
+use Rattle.rules.specs.State.{State, emptyAt}
 use Rattle.rules.specs.Records.{IN, NW, ES}
 use Rattle.rules.specs.Bytes.{written, allWritten, encodeAll, mark}
 use Rattle.rules.specs.Refusals.{mostRequestBytes}
@@ -75,6 +75,8 @@ fedAs r = feed (r .store) (r .carry) (r .piece) (r .room)
 
 pub record FeedRows : Type 0 where
   pub feeds : map fedAs feedings ≡ map (λ (r : Feeding). r .gives) feedings
-  pub long : feed (reads with7) (carries (halts 18)) (replicate 32769 0) 0 ≡ refused 8 0
+  -- a piece that is too long: 17 comes before its 8, and 8 before the 9 of a stream that has stopped
+  pub long : map (λ (c : Carry). feed (reads none) (carries c) (replicate (suc mostRequestBytes) 0) 0) (goes (2 ^ 64 - 2) [] ∷ opening ∷ halts 18 ∷ [])
+      ≡ refused 17 0 ∷ refused 8 0 ∷ refused 8 0 ∷ []
   pub finishes : map finishOn (unfit ∷ carries (halts 18) ∷ carries (goes 18 (88 ∷ [])) ∷ carries (goes 18 []) ∷ [])
       ≡ refused 17 0 ∷ refused 9 18 ∷ refused 9 18 ∷ done (goes 18 []) [] ∷ []

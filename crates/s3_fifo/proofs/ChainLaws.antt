@@ -40,7 +40,7 @@ use Rattle.s3_fifo.specs.declared.Creation.the-variants.{Made}
 use Rattle.s3_fifo.specs.declared.Ran.the-variants.{Done}
 use Rattle.s3_fifo.specs.declared.Fed.{Fed}
 use Rattle.s3_fifo.specs.Feeds.{fedSays, repliesIn, carriedOut, FollowsFeed, FedAs}
-use Rattle.s3_fifo.specs.Streams.{Goes}
+use Rattle.s3_fifo.specs.Streams.{NotTurned}
 use Rattle.s3_fifo.specs.Calls.{Said, gave, halted, turned, ranSays, ReadsAs, Follows, Created, Called}
 use Rattle.s3_fifo.specs.Chains.{limitsMade, Chain, start, accepted, refused, fed, Grown, Kept, FullWithin}
 use Rattle.s3_fifo.proofs.OnceLaws.{gave-not, goes-not, reads-once}
@@ -119,7 +119,7 @@ served {s} {q} {p} {s′} {p′} {n} {σ} h b c =
     said x = cc
 
 -- an accepted call's requests were whole
-pub record Whole (s q s′ p′ : List ℕ) (n : ℕ) : Type 0 where
+pub record AllServed (s q s′ p′ : List ℕ) (n : ℕ) : Type 0 where
   pub state : State
   pub held : Holds s state
   pub long : storeBytes ≤ length s
@@ -133,7 +133,7 @@ not-broken (unknownAt i) h = let z : _≡_ {A = ℕ} 0 1 = cc in absurd (omega a
 not-broken (cutAt i) h = let z : _≡_ {A = ℕ} 0 1 = cc in absurd (omega arith)
 
 whole-on : (s q p s′ p′ : List ℕ) (n : ℕ) (x : Reads) → ReadsAs s x → Follows (call x q (length p)) (gave n) s s′ p p′ → Called s q p (Done n) s′ p′
-    → Whole s q s′ p′ n
+    → AllServed s q s′ p′ n
 unfolding call
 whole-on s q p s′ p′ n short h l c = absurd (gave-not (l .0))
 whole-on s q p s′ p′ n damaged h l c = absurd (gave-not (l .0))
@@ -149,7 +149,7 @@ whole-on s q p s′ p′ n (reads σ) h l c =
       ended = not-broken (parse q .end) (a .1 .0);
     }
 
-pub whole-served : {s q p s′ p′ : List ℕ} {n : ℕ} → Called s q p (Done n) s′ p′ → Whole s q s′ p′ n
+pub whole-served : {s q p s′ p′ : List ℕ} {n : ℕ} → Called s q p (Done n) s′ p′ → AllServed s q s′ p′ n
 whole-served {s} {q} {p} {s′} {p′} {n} c = whole-on s q p s′ p′ n (c .store) (c .store-is) (c .leaves) c
 
 -- ---- what an accepted call leaves never counts as damaged
@@ -204,7 +204,7 @@ fed-narrow {c} q k x b d = go (k .stopped)
 module _ {s c q p s′ c′ p′ : List ℕ} {r : Fed} (f : FedAs s c q p r s′ c′ p′) {σ₀ : State} {rs : List Request} {bs : List ℕ} (g : Grown s σ₀ rs bs)
     (b : Bytes c) (d : Bytes q) where
   -- the requests that it completed
-  grow-fed : Goes (fedSays r) → Grown s′ σ₀ (rs ++ completedOf (f .carry) q) (bs ++ take (repliesIn (fedSays r)) p′)
+  grow-fed : NotTurned (fedSays r) → Grown s′ σ₀ (rs ++ completedOf (f .carry) q) (bs ++ take (repliesIn (fedSays r)) p′)
   grow-fed t =
       let l = goes-lent r f t in
       let k = l .carry in
@@ -233,9 +233,9 @@ unfed-same (done w bs) n d a s s′ c c′ p p′ h r = absurd (goes-not (w .car
 grow-either : {s c q p s′ c′ p′ : List ℕ} (r : Fed) (f : FedAs s c q p r s′ c′ p′) {σ₀ : State} {rs : List Request} {bs : List ℕ} → Grown s σ₀ rs bs → Bytes c
     → Bytes q → (a : Said) → fedSays r ≡ a → Grown s′ σ₀ (rs ++ carriedOut a (completedOf (f .carry) q)) (bs ++ take (repliesIn a) p′)
 grow-either {q = q} {s′ = s′} {p′ = p′} r f {σ₀} {rs} {bs} g b d (gave n) e =
-    subst (λ (a : Said). Grown s′ σ₀ (rs ++ completedOf (f .carry) q) (bs ++ take (repliesIn a) p′)) e (grow-fed f g b d (subst Goes (sym e) tt))
+    subst (λ (a : Said). Grown s′ σ₀ (rs ++ completedOf (f .carry) q) (bs ++ take (repliesIn a) p′)) e (grow-fed f g b d (subst NotTurned (sym e) tt))
 grow-either {q = q} {s′ = s′} {p′ = p′} r f {σ₀} {rs} {bs} g b d (halted n i) e =
-    subst (λ (a : Said). Grown s′ σ₀ (rs ++ completedOf (f .carry) q) (bs ++ take (repliesIn a) p′)) e (grow-fed f g b d (subst Goes (sym e) tt))
+    subst (λ (a : Said). Grown s′ σ₀ (rs ++ completedOf (f .carry) q) (bs ++ take (repliesIn a) p′)) e (grow-fed f g b d (subst NotTurned (sym e) tt))
 grow-either {s} {c} {q} {p} {s′} {c′} {p′} r f g b d (turned n i) e =
     grow-none f g b d (unfed-same (feed (f .store) (f .carry) q (length p)) n i (fedSays r) s s′ c c′ p p′ (f .leaves) e)
 

@@ -2,8 +2,8 @@
 -- Assumes nothing.
 use mathlib.Core.Path.{_≡_, refl, sym, ap, ap₂, _∙_, subst}
 use mathlib.Core.Bool.{Bool, true, false, cond}
-use mathlib.Core.List.{List, [], _∷_, _++_}
-use Prim.Native.Nat.{ℕ, _+_, _≤_}
+use mathlib.Core.List.{List, _++_}
+use Prim.Native.Nat.{ℕ, _≤_}
 use native.Mathlib.Omega.{arith}
 use lib.Dec.{ltb}
 use lib.ListN.{length, take, drop, take-append-drop}
@@ -11,11 +11,10 @@ use lib.Seq.{take-at}
 use Rattle.rules.specs.declared.Turned.{Turned}
 use Rattle.rules.specs.declared.Turned.the-variants.{ShortStore, DamagedStore, LongRequests, BadRecord, NoRoom, BadCarry}
 use Rattle.rules.specs.State.{State}
-use Rattle.rules.specs.Records.{Reply}
-use Rattle.rules.specs.Bytes.{parse, roomFor, encodeAll}
+use Rattle.rules.specs.Bytes.{roomFor, encodeAll}
 use Rattle.rules.specs.Refusals.{numberOf, detailOf, storeBytes, mostRequestBytes}
-use Rattle.rules.specs.Verdict.{Verdict, refused, done, turnedAway, Reads, short, damaged, reads}
-use Rattle.rules.specs.Carry.{Carry, couldLeave, carryBytes, carryWritten, CarryAs, Carried, unfit, carries, ReadsCarry}
+use Rattle.rules.specs.Verdict.{Verdict, turnedAway, Reads, short, damaged, reads}
+use Rattle.rules.specs.Carry.{Carry, carryBytes, carryWritten, CarryAs, Carried, unfit, carries, ReadsCarry}
 use Rattle.rules.specs.Feed.{Flow, still, onCarry, feedOn, completed, runsOver, Onward, fed, feed}
 use Rattle.rules.proofs.FeedCouldLaws.{feed-could}
 use Rattle.rules.proofs.CarriedLaws.{carry-written}
@@ -23,7 +22,7 @@ use Rattle.store.specs.Holds.{Holds}
 use Rattle.s3_fifo.specs.declared.Fed.{Fed}
 use Rattle.s3_fifo.specs.Calls.{Said, gave, halted, turned, ReadsAs}
 use Rattle.s3_fifo.specs.Feeds.{fedSays, repliesIn, saidWith, FollowsFeed, FedAs}
-use Rattle.s3_fifo.specs.Streams.{Goes}
+use Rattle.s3_fifo.specs.Streams.{NotTurned}
 use Rattle.s3_fifo.proofs.OnceLaws.{fed-on}
 
 -- an answer with so many reply bytes, by what is carried on
@@ -43,13 +42,13 @@ pub record Went (s c : List ℕ) (w : Flow) (n : ℕ) (s′ c′ p′ : List ℕ
   pub carried : c′ ≡ carryWritten (w .carry) ++ drop carryBytes c
   pub same-length : length s′ ≡ length s
 
-module _ (s c q p s′ c′ p′ : List ℕ) (a : Said) (σ : State) (k : Carry) (g : Goes a) (h : Holds s σ) (x : CarryAs c k) where
+module _ (s c q p s′ c′ p′ : List ℕ) (a : Said) (σ : State) (k : Carry) (g : NotTurned a) (h : Holds s σ) (x : CarryAs c k) where
   abbrev Leaves : Verdict Onward → Type 0
   Leaves v = FollowsFeed v a s s′ c c′ p p′
 
   -- no row of another number applied
   passes : (t : Bool) (why : Turned) (v : Verdict Onward) → (numberOf why ≡ 9 → ⊥) → Leaves (cond t (turnedAway why) v) → (t ≡ false) × Leaves v
-  passes true why v w l = absurd (w (subst Goes (l .0) g))
+  passes true why v w l = absurd (w (subst NotTurned (l .0) g))
   passes false why v w l = (refl, l)
 
   -- the stream had stopped before: nothing has changed
@@ -100,7 +99,7 @@ pub record Onwards (s c : List ℕ) (σ : State) (k : Carry) (q : List ℕ) (n :
   pub next : CarryAs c′ (feedOn σ k q .carry)
 
 pub goes-on : {s c q p s′ c′ p′ : List ℕ} (r : Fed) {σ : State} {k : Carry} → Holds s σ → storeBytes ≤ length s → CarryAs c k → FedAs s c q p r s′ c′ p′
-    → Goes (fedSays r) → Onwards s c σ k q (repliesIn (fedSays r)) s′ c′ p′
+    → NotTurned (fedSays r) → Onwards s c σ k q (repliesIn (fedSays r)) s′ c′ p′
 goes-on {s} {c} {q} {p} {s′} {c′} {p′} r {σ} {k} h b x f g =
     let w = went-on s c q p s′ c′ p′ (fedSays r) σ k g h x (fed-on (reads σ) (carries k) (b, h) x f) in
     record { went = w .1; next = next-carry s c q p s′ c′ p′ (fedSays r) σ k g h x (w .0) (w .1) }
@@ -114,30 +113,30 @@ pub record Lent (x : Reads) (y : Carried) : Type 0 where
   pub carry-is : y ≡ carries carry
 
 -- another refusal does not go on
-away : (why : Turned) (a : Said) → (numberOf why ≡ 9 → ⊥) → Goes a → a ≡ turned (numberOf why) (detailOf why) → ⊥
-away why a w g e = w (subst Goes e g)
+away : (why : Turned) (a : Said) → (numberOf why ≡ 9 → ⊥) → NotTurned a → a ≡ turned (numberOf why) (detailOf why) → ⊥
+away why a w g e = w (subst NotTurned e g)
 
-lent : (s c q p s′ c′ p′ : List ℕ) (a : Said) → Goes a → (x : Reads) (y : Carried) → FollowsFeed (feed x y q (length p)) a s s′ c c′ p p′ → Lent x y
+lent : (s c q p s′ c′ p′ : List ℕ) (a : Said) → NotTurned a → (x : Reads) (y : Carried) → FollowsFeed (feed x y q (length p)) a s s′ c c′ p p′ → Lent x y
 unfolding feed
 lent s c q p s′ c′ p′ a g short y l = absurd (away ShortStore a (λ e. omega arith) g (l .0))
 lent s c q p s′ c′ p′ a g damaged y l = absurd (away DamagedStore a (λ e. omega arith) g (l .0))
 lent s c q p s′ c′ p′ a g (reads σ) unfit l = absurd (away BadCarry a (λ e. omega arith) g (l .0))
 lent s c q p s′ c′ p′ a g (reads σ) (carries k) l = record { state = σ; carry = k; store-is = refl; carry-is = refl }
 
-pub goes-lent : {s c q p s′ c′ p′ : List ℕ} (r : Fed) (f : FedAs s c q p r s′ c′ p′) → Goes (fedSays r) → Lent (f .store) (f .carry)
+pub goes-lent : {s c q p s′ c′ p′ : List ℕ} (r : Fed) (f : FedAs s c q p r s′ c′ p′) → NotTurned (fedSays r) → Lent (f .store) (f .carry)
 goes-lent {s} {c} {q} {p} {s′} {c′} {p′} r f g = lent s c q p s′ c′ p′ (fedSays r) g (f .store) (f .carry) (f .leaves)
 
 -- ---- what it left is sound, and its record is none that is refused
 
-after : {s c q p s′ c′ p′ : List ℕ} (r : Fed) (f : FedAs s c q p r s′ c′ p′) (g : Goes (fedSays r)) → let l = goes-lent r f g in
+after : {s c q p s′ c′ p′ : List ℕ} (r : Fed) (f : FedAs s c q p r s′ c′ p′) (g : NotTurned (fedSays r)) → let l = goes-lent r f g in
     Onwards s c (l .state) (l .carry) q (repliesIn (fedSays r)) s′ c′ p′
 after {s} {c} r f g =
     let l = goes-lent r f g in
     let y : ReadsAs s (reads (l .state)) = subst (ReadsAs s) (l .store-is) (f .store-is) in
     goes-on r (y .1) (y .0) (subst (ReadsCarry c) (l .carry-is) (f .carry-is)) f g
 
-pub fed-intact : {s c q p s′ c′ p′ : List ℕ} (r : Fed) → FedAs s c q p r s′ c′ p′ → Goes (fedSays r) → ReadsAs s′ damaged → ⊥
+pub fed-intact : {s c q p s′ c′ p′ : List ℕ} (r : Fed) → FedAs s c q p r s′ c′ p′ → NotTurned (fedSays r) → ReadsAs s′ damaged → ⊥
 fed-intact {q = q} r f g d = let l = goes-lent r f g in d .1 (feedOn (l .state) (l .carry) q .state) (after r f g .went .holds)
 
-pub fed-fit : {s c q p s′ c′ p′ : List ℕ} (r : Fed) → FedAs s c q p r s′ c′ p′ → Goes (fedSays r) → ReadsCarry c′ unfit → ⊥
+pub fed-fit : {s c q p s′ c′ p′ : List ℕ} (r : Fed) → FedAs s c q p r s′ c′ p′ → NotTurned (fedSays r) → ReadsCarry c′ unfit → ⊥
 fed-fit {q = q} r f g d = let l = goes-lent r f g in d (feedOn (l .state) (l .carry) q .carry) (after r f g .next)

@@ -1,12 +1,11 @@
 -- The laws of a feed and a finish: each answer, and the verdict that it is.
 -- Assumes nothing.
 use mathlib.Core.Path.{_≡_, refl, sym, ap, ap₂, _∙_, subst}
-use mathlib.Core.Bool.{Bool, true, false, cond}
+use mathlib.Core.Bool.{true, false}
 use mathlib.Core.List.{List, [], _++_}
-use Prim.Native.Nat.{ℕ, zero, suc, _+_, _-_, _*_, _^_, _≤_, _<_}
+use Prim.Native.Nat.{ℕ, zero, suc, _+_, _-_, _≤_, _<_}
 use native.Mathlib.Omega.{arith}
 use native.Mathlib.Nat.{zero-add, add-zero, sub-zero}
-use lib.Dec.{ltb}
 use lib.ListN.{length, take, drop, length-take, drop-of-length-le}
 use borrow.Author.Tests.{lt-ltb, le-ltb}
 use mir.Syntax.{w64}
@@ -17,13 +16,13 @@ use Rattle.nodes.proofs.NodesLaws.{cols-rest}
 use Rattle.rules.specs.declared.Turned.{Turned}
 use Rattle.rules.specs.declared.Turned.the-variants.{ShortStore, DamagedStore, LongRequests, BadRecord, NoRoom, BadCarry}
 use Rattle.rules.specs.State.{State}
-use Rattle.rules.specs.Records.{Request, AllPeeks}
+use Rattle.rules.specs.Records.{Request}
 use Rattle.rules.specs.Requests.{run}
-use Rattle.rules.specs.Bytes.{spotAt, End, whole, unknownAt, cutAt, ends, Parsed, parseFrom, parse, roomFor, encodeAll}
+use Rattle.rules.specs.Bytes.{spotAt, End, whole, unknownAt, cutAt, Parsed, parseFrom, parse, roomFor, encodeAll}
 use Rattle.rules.specs.Refusals.{numberOf, detailOf, storeBytes, mostRequestBytes}
 use Rattle.rules.specs.Verdict.{short, damaged, reads}
-use Rattle.rules.specs.Carry.{Carry, waits, lastOffset, leftBy, carryBytes, keptRoom, carryWritten, CarryAs, unfit, carries}
-use Rattle.rules.specs.Feed.{feedOn, completed, runsOver, feed, finishOn}
+use Rattle.rules.specs.Carry.{Carry, waits, lastOffset, leftBy, carryBytes, keptRoom, unfit, carries}
+use Rattle.rules.specs.Feed.{feedOn, completed, feed, finishOn}
 use Rattle.rules.proofs.FeedCouldLaws.{some-kept}
 use Rattle.rules.proofs.StreamLaws.{parse-room, room-append, EndsIn, parse-within}
 use Rattle.wire.specs.declared.Stop.{Stop}
@@ -36,17 +35,17 @@ use Rattle.carry.specs.declared.Brought.the-variants.{Going, Stopped as Halted,
 use Rattle.carry.specs.declared.Head.{Head}
 use Rattle.carry.specs.declared.Head.the-variants.{Whole, Cut, Unknown}
 use Rattle.carry.specs.Carries.{headBytes, mostKept, keptIn, carriedBy, Brings, CarryPut}
-use Rattle.carry.specs.Heads.{Completes, StillCut, HeadJoins}
+use Rattle.carry.specs.Heads.{HeadJoins}
 use Rattle.carry.proofs.CarriesLaws as lent
 use Rattle.store.specs.Holds.{stateIn, shapeFor, Held}
 use Rattle.store.proofs.HoldsLaws.{held-holds, limits-shown}
 use Rattle.soundness.specs.declared.Checked.{Checked}
-use Rattle.soundness.specs.declared.Checked.the-variants.{Sound as Sound·, Damaged}
+use Rattle.soundness.specs.declared.Checked.the-variants.{Damaged}
 use Rattle.soundness.specs.Checks.{Checks}
 use Rattle.s3_fifo.specs.declared.Fed.{Fed}
 use Rattle.s3_fifo.specs.declared.Fed.the-variants.{Done, Stopped, Refused}
 use Rattle.s3_fifo.specs.declared.Finish.the-variants.{Complete, Refused as Broken}
-use Rattle.s3_fifo.specs.Runs.{Runs, FedRan, FedBy, FedOn}
+use Rattle.s3_fifo.specs.Runs.{Runs, FedRan, FedOn}
 use Rattle.s3_fifo.specs.Calls.{gave, halted, turned, Settled}
 use Rattle.s3_fifo.specs.Feeds.{FedAs, verdictSays, FinishAs}
 use Rattle.s3_fifo.proofs.RunLaws.{splice-none, runs-room, runs-runs}
@@ -164,7 +163,8 @@ module _ (piece : List ℕ) (from : ℕ) {w : Survey} (h : w ≡ surveyed (lengt
     left-strange : t ≡ Strange → (base : ℕ) → record { offset = base + w .at; kept = drop (length piece) piece; stopped = true } ≡ leftBy base piece e
     left-strange k base =
         let q : e ≡ unknownAt (w .at) = strange-end (length piece) e (sym stop-is ∙ k) ∙ ap unknownAt (sym at-is) in
-        ap (λ (l : List ℕ). record { offset = base + w .at; kept = l; stopped = true }) (drop-of-length-le piece {i = length piece} (omega arith)) ∙ ap (leftBy base piece) (sym q)
+        ap (λ (l : List ℕ). record { offset = base + w .at; kept = l; stopped = true }) (drop-of-length-le piece {i = length piece} (omega arith))
+        ∙ ap (leftBy base piece) (sym q)
 
     left-cut : t ≡ Short → (base : ℕ) → record { offset = base + w .at; kept = drop (w .at) piece; stopped = false } ≡ leftBy base piece e
     left-cut k base = ap (leftBy base piece) (sym (at-cut k))
@@ -185,7 +185,8 @@ module _ (head piece : List ℕ) (from : ℕ) {v w : Survey} (g : v ≡ surveyed
   ran {k} {l} q u = record { runs = a; room = omega (arith, rooms head piece from g h); put = subst (λ (x : Carry). CarryPut c x c′) q u .is }
 
   pub whole-stopped : t ≡ Strange → CarryPut c (record { offset = base + w .at; kept = drop (length piece) piece; stopped = true }) c′
-      → FedOn z s s₂ c c′ p p₂ (parse head .requests ++ parseFrom piece from .requests) (leftBy base piece (parseFrom piece from .end)) (Stopped n (base + w .at))
+      → FedOn z s s₂ c c′ p p₂ (parse head .requests ++ parseFrom piece from .requests) (leftBy base piece (parseFrom piece from .end))
+      (Stopped n (base + w .at))
   whole-stopped k u =
       let q = left-strange piece from h is k base in
       record { fed = (ap (λ (x : Carry). x .stopped) (sym q), ap (λ (x : Carry). x .offset) (sym q), ran q u) }
@@ -259,7 +260,8 @@ module _ {bs : List ℕ} {o n : ℕ} (b : Brings bs (Going o n)) {piece head : L
       → FedOn z s s bs bs′ p p (parse all .requests) (leftBy o all (parse all .end)) (Stopped 0 o)
   going-unknown is {z} {s} {p} {bs′} h u =
       let q : record { offset = o; kept = drop (length piece) piece; stopped = true } ≡ leftBy o all (unknownAt 0) =
-      ap₂ (λ (i : ℕ) (x : List ℕ). record { offset = i; kept = x; stopped = true }) (sym (add-zero o)) (drop-of-length-le piece {i = length piece} (omega arith)) in
+      ap₂ (λ (i : ℕ) (x : List ℕ). record { offset = i; kept = x; stopped = true }) (sym (add-zero o))
+      (drop-of-length-le piece {i = length piece} (omega arith)) in
       subst (λ (x : Parsed Request). FedOn z s s bs bs′ p p (x .requests) (leftBy o all (x .end)) (Stopped 0 o)) (sym (j .unknown is))
       (record { fed = (refl, add-zero o, none-ran h (subst (λ (x : Carry). CarryPut bs x bs′) q u)) })
 
@@ -275,7 +277,8 @@ module _ {bs : List ℕ} {o n : ℕ} (b : Brings bs (Going o n)) {piece head : L
     whole-in = let c = j .whole m is .within in omega (arith, lent.going-kept b refl)
 
     pub going-whole : {z : Shape} {s s′ bs′ p p′ : List ℕ} {a : Fed}
-        → FedOn z s s′ bs bs′ p p′ (parse (take (m - 0) head) .requests ++ parseFrom piece (m - n) .requests) (leftBy (o + n) piece (parseFrom piece (m - n) .end)) a
+        → FedOn z s s′ bs bs′ p p′ (parse (take (m - 0) head) .requests ++ parseFrom piece (m - n) .requests)
+        (leftBy (o + n) piece (parseFrom piece (m - n) .end)) a
         → FedOn z s s′ bs bs′ p p′ (parse all .requests) (leftBy o all (parse all .end)) a
     going-whole {z} {s} {s′} {bs′} {p} {p′} {a} f =
         let c = j .whole m is in
@@ -411,7 +414,8 @@ module _ {z : Shape} {s : List ℕ} (l : storeBytes ≤ length s) (h : Held z s)
             let u : drop (used z) s′ ≡ drop (used z) s = sym (cols-rest z s′) ∙ x .runs .rest ∙ cols-rest z s in
             record { holds = rw (x .runs .carried .state) at (held-holds (x .runs .held)); surplus = rw y at u; same-length = x .runs .same }
 
-        written : {k : ℕ} → FedRan z s s′ c c′ p p′ asked next k → let bs : List ℕ = encodeAll (run (stateIn z s) asked .replies) in (k ≡ length bs) × (p′ ≡ bs ++ drop (length bs) p)
+        written : {k : ℕ} → FedRan z s s′ c c′ p p′ asked next k
+            → let bs : List ℕ = encodeAll (run (stateIn z s) asked .replies) in (k ≡ length bs) × (p′ ≡ bs ++ drop (length bs) p)
         unfolding splice
         written x =
             let bs : List ℕ = encodeAll (run (stateIn z s) asked .replies) in

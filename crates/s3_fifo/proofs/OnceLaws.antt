@@ -27,7 +27,7 @@ use Rattle.s3_fifo.specs.declared.Finish.{Finish}
 use Rattle.s3_fifo.specs.declared.Finish.the-variants.{Complete, Refused as Broken}
 use Rattle.s3_fifo.specs.Feeds.{fedSays, finishSays, saidWith, FollowsFeed, FedAs, verdictSays, FinishAs}
 use Rattle.s3_fifo.specs.Calls.{Said, gave, halted, turned, createdSays, ranSays, ReadsAs, Settled, Follows, Created, Called}
-use Rattle.s3_fifo.specs.Once.{Alike, Agrees, OneCreation, OneCall, OneFeed}
+use Rattle.s3_fifo.specs.Once.{SameState, Agrees, OneCreation, OneCall, OneFeed}
 
 -- ---- the answer is known by what it says
 
@@ -73,10 +73,10 @@ reads-once s (reads σ) (reads τ) h g = ap reads (holds-once (h .1) (g .1))
 
 -- ---- two stores that nobody can tell apart by what they hold
 
-pub alike-self : (s : List ℕ) → Alike s s
+pub alike-self : (s : List ℕ) → SameState s s
 alike-self s = record { holds = λ σ h. h; back = λ σ h. h; same-length = refl }
 
-pub alike-holds : {s₁ s₂ : List ℕ} {τ : State} → Holds s₁ τ → Holds s₂ τ → length s₁ ≡ length s₂ → Alike s₁ s₂
+pub alike-holds : {s₁ s₂ : List ℕ} {τ : State} → Holds s₁ τ → Holds s₂ τ → length s₁ ≡ length s₂ → SameState s₁ s₂
 alike-holds {s₁} {s₂} a b e =
     record { holds = λ σ h. subst (Holds s₂) (holds-once a h) b; back = λ σ h. subst (Holds s₁) (holds-once b h) a; same-length = e }
 

@@ -5,16 +5,15 @@ use mathlib.Core.Path.{_≡_, refl, sym, ap, ap₂, _∙_, subst}
 use mathlib.Core.List.{List, [], _∷_, _++_}
 use Prim.Native.Nat.{ℕ, _≤_}
 use native.Mathlib.Omega.{arith}
-use lib.ListN.{length, take, drop, take-append-drop}
+use lib.ListN.{length, drop, take-append-drop}
 use Rattle.rules.specs.State.{State}
-use Rattle.rules.specs.Bytes.{End, whole, parse, encodeAll}
-use Rattle.rules.specs.Requests.{run}
-use Rattle.rules.specs.Refusals.{storeBytes, broken, runRows}
-use Rattle.rules.specs.Verdict.{Verdict, reads, Reads, finished, call}
+use Rattle.rules.specs.Bytes.{End, parse, encodeAll}
+use Rattle.rules.specs.Refusals.{storeBytes}
+use Rattle.rules.specs.Verdict.{reads}
 use Rattle.rules.specs.Carry.{Carry, opening, carryBytes, carryWritten, CarryAs, Carried, carries, ReadsCarry}
 use Rattle.rules.specs.Feed.{Flow, feedOn, feedAll, glued, finishOn, ended}
 use Rattle.rules.proofs.RoomLaws.{encode-append}
-use Rattle.rules.proofs.CarriedLaws.{carried-once, carry-written, carry-surplus}
+use Rattle.rules.proofs.CarriedLaws.{carried-once, carry-surplus}
 use Rattle.rules.proofs.FeedCouldLaws.{finish-is}
 use Rattle.rules.proofs.StreamLaws.{feed-all, any-cutting}
 use Rattle.store.specs.Holds.{Holds}
@@ -23,7 +22,6 @@ use Rattle.s3_fifo.specs.declared.Finish.{Finish}
 use Rattle.s3_fifo.specs.declared.Finish.the-variants.{Complete}
 use Rattle.s3_fifo.specs.Calls.{ReadsAs, Called}
 use Rattle.s3_fifo.specs.Feeds.{finishSays, verdictSays, FinishAs}
-use Rattle.s3_fifo.specs.Once.{Alike}
 use Rattle.s3_fifo.specs.Streams.{Stream, over, feeds, OneStream, AsOneCall}
 use Rattle.s3_fifo.proofs.OnceLaws.{alike-self, alike-holds, finish-says-once}
 use Rattle.s3_fifo.proofs.FedLaws.{goes-on, goes-lent}
@@ -107,8 +105,8 @@ finish-says {c′ = c′} ps {σ} h b x t r f =
     let y : CarryAs c′ k = subst (λ (w : Flow). CarryAs c′ (w .carry)) (feed-all σ opening (x .could) ps) (stream-gives h b x t .next) in
     f .says ∙ ap (λ (d : Carried). verdictSays (finishOn d)) (carried-once c′ (f .carry) (carries k) (f .carry-is) y) ∙ ap verdictSays (finish-is σ (glued ps))
 
-pub as-one-call : {s c bs s′ c′ p s₁ p₁ : List ℕ} {n : ℕ} (ps : List (List ℕ)) → CarryAs c opening → Stream s c ps bs s′ c′ → Called s (glued ps) p (Done n) s₁ p₁
-    → AsOneCall bs s′ c′ n s₁ p₁
+pub as-one-call : {s c bs s′ c′ p s₁ p₁ : List ℕ} {n : ℕ} (ps : List (List ℕ)) → CarryAs c opening → Stream s c ps bs s′ c′
+    → Called s (glued ps) p (Done n) s₁ p₁ → AsOneCall bs s′ c′ n s₁ p₁
 unfolding feedOn
 as-one-call {s} {c} {bs} {s′} {c′} {p} {s₁} {p₁} {n} ps x t d =
     let y = whole-served d in

@@ -14,7 +14,7 @@ use Rattle.s3_fifo.specs.Calls.{Said, turned, createdSays, ranSays}
 use Rattle.s3_fifo.specs.Feeds.{fedSays}
 
 -- two stores that hold the same state, if they hold one
-pub record Alike (s₁ s₂ : List ℕ) : Type 0 where
+pub record SameState (s₁ s₂ : List ℕ) : Type 0 where
   pub holds : (σ : State) → Holds s₁ σ → Holds s₂ σ
   pub back : (σ : State) → Holds s₂ σ → Holds s₁ σ
   pub same-length : length s₁ ≡ length s₂
@@ -22,7 +22,7 @@ pub record Alike (s₁ s₂ : List ℕ) : Type 0 where
 -- two stores after an answer: the same bytes where it is a refusal; otherwise they hold the same state, and the same bytes stand behind it
 pub record Agrees (a : Said) (s₁ s₂ : List ℕ) : Type 0 where
   pub refused-same : (n d : ℕ) → a ≡ turned n d → s₁ ≡ s₂
-  pub alike : Alike s₁ s₂
+  pub alike : SameState s₁ s₂
   pub surplus : (σ : State) → Holds s₁ σ → drop (used (shapeFor (σ .limits))) s₁ ≡ drop (used (shapeFor (σ .limits))) s₂
 
 pub record OneCreation (r t : Creation) (s₁ s₂ : List ℕ) : Type 0 where

@@ -1,7 +1,7 @@
 -- What the calls promise, on one page: start here. `promises` (proofs/PromisesLaws.antt) is the theorem that gives it.
--- `Created`, `Called` (Calls.antt), `FedAs` and `FinishAs` (Feeds.antt) are the contracts of `S3FifoCache::create`, `run`, `feed` and `finish`, which ask nothing
--- of their caller: whatever bytes are lent, a call ends, and they hold of its outcome. So what is said here of every outcome that satisfies them is said of the
--- calls.
+-- `Created`, `Called` (Calls.antt), `FedAs` and `FinishAs` (Feeds.antt) are the contracts of `S3FifoCache::create`, `run`, `feed` and `finish`, which ask
+-- nothing of their caller: whatever bytes are lent, a call ends, and they hold of its outcome. So what is said here of every outcome that satisfies them is
+-- said of the calls.
 -- Assumes nothing.
 use mathlib.Core.Path.{_≡_}
 use mathlib.Core.Bool.{true}
@@ -27,7 +27,7 @@ use Rattle.s3_fifo.specs.declared.Finish.{Finish}
 use Rattle.s3_fifo.specs.Calls.{ReadsAs, Created, Called}
 use Rattle.s3_fifo.specs.Feeds.{fedSays, finishSays, FedAs, verdictSays, FinishAs}
 use Rattle.s3_fifo.specs.Once.{OneCreation, OneCall, OneFeed}
-use Rattle.s3_fifo.specs.Streams.{Goes, Stream, OneStream, AsOneCall}
+use Rattle.s3_fifo.specs.Streams.{NotTurned, Stream, OneStream, AsOneCall}
 use Rattle.s3_fifo.specs.Chains.{Chain, Kept, FullWithin}
 
 pub record Promises : Type 0 where
@@ -39,8 +39,8 @@ pub record Promises : Type 0 where
   -- a fresh store never counts as damaged, nor does one that an accepted call or a feed left; nor is the record that a feed left ever refused
   pub created-intact : {settings : Settings} {s s′ : List ℕ} → Created settings s Made s′ → ReadsAs s′ damaged → ⊥
   pub called-intact : {s q p s′ p′ : List ℕ} {n : ℕ} → Called s q p (Done n) s′ p′ → ReadsAs s′ damaged → ⊥
-  pub fed-intact : {s c q p s′ c′ p′ : List ℕ} (r : Fed) → FedAs s c q p r s′ c′ p′ → Goes (fedSays r) → ReadsAs s′ damaged → ⊥
-  pub fed-fit : {s c q p s′ c′ p′ : List ℕ} (r : Fed) → FedAs s c q p r s′ c′ p′ → Goes (fedSays r) → ReadsCarry c′ unfit → ⊥
+  pub fed-intact : {s c q p s′ c′ p′ : List ℕ} (r : Fed) → FedAs s c q p r s′ c′ p′ → NotTurned (fedSays r) → ReadsAs s′ damaged → ⊥
+  pub fed-fit : {s c q p s′ c′ p′ : List ℕ} (r : Fed) → FedAs s c q p r s′ c′ p′ → NotTurned (fedSays r) → ReadsCarry c′ unfit → ⊥
   -- refusal 17 is exact: a record passes its test exactly where accepted feeds leave it
   pub could-reach : (c : Carry) → Bytes (c .kept) → couldLeave c ≡ true → Reached c
   pub reach-could : {c : Carry} → Reached c → couldLeave c ≡ true

@@ -10,7 +10,7 @@ use mir.Syntax.{w64}
 use mir.Val.{Fits}
 use Rattle.rules.specs.Parts.{total}
 use Rattle.rules.specs.Records.{Request}
-use Rattle.rules.specs.Bytes.{row, over, made, roomOf, roomFor, Reading, ask, strange, short, end, readAt, End, unknownAt, cutAt, whole}
+use Rattle.rules.specs.Bytes.{over, made, roomOf, roomFor, Reading, ask, strange, short, end, readAt, End, unknownAt, cutAt, whole}
 use Rattle.rules.specs.Bytes.{Parsed, ends, with, onReading, parseFrom}
 use Rattle.rules.specs.Refusals.{mostRequestBytes}
 use Rattle.rules.proofs.TableLaws.{row-bytes, room-made}

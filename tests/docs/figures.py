@@ -78,6 +78,9 @@ def rows_of_hosts(said, original):
     yield "host in C: random calls", host(r"^c host: (\d+) random calls")
     yield "host in C: pairs that leave, each named", host(r" random calls, (\d+) pairs")
     yield "host in C: checks", host(r"^c host: (\d+) checks, 0 failed$")
+    feed = Printed(said, "c-host-feed")
+    yield "host in C, pieces: random streams", feed(r"^c host, pieces: (\d+) random streams")
+    yield "host in C, pieces: checks", feed(r"^c host, pieces: (\d+) checks, 0 failed$")
     runs = Printed(said, "thin-runs")
     yield "example host: random runs of 300 events", runs(r"^Over the mapping cache, (\d+) random runs of 300 events:$")
     yield "example host: blocks given out", runs(r"^  (\d+) blocks given out,")
@@ -109,6 +112,8 @@ def rows(said, machine, original):
     yield from rows_of_programs(said)
     if os.path.exists(os.path.join(said, "c-host-valgrind")):
         yield "host in C under valgrind, 300 random calls: checks", Printed(said, "c-host-valgrind")(r"^c host: (\d+) checks, 0 failed$")
+        pieces = Printed(said, "c-host-feed-valgrind")
+        yield "host in C under valgrind, 50 random streams: checks", pieces(r"^c host, pieces: (\d+) checks, 0 failed$")
     if original:
         run = Printed(said, "differential")
         yield "differential run: requests", run(r"^ +(\d+)  requests$")

@@ -22,8 +22,8 @@ use Rattle.s3_fifo.specs.declared.Ran.the-variants.{Done, Refused}
 use Rattle.rules.specs.declared.Turned.the-variants.{BadRecord}
 use Rattle.rules.specs.Carry.{Carry}
 use Rattle.rules.specs.Feed.{Onward, feed}
-use Rattle.s3_fifo.specs.declared.Fed.{Fed}
-use Rattle.s3_fifo.specs.declared.Fed.the-variants.{Done as Given, Stopped, Refused as Away}
+use Rattle.runs.specs.declared.Fed.{Fed}
+use Rattle.runs.specs.declared.Fed.the-variants.{Done as Given, Stopped, Refused as Away}
 use Rattle.s3_fifo.specs.declared.Finish.{Finish}
 use Rattle.s3_fifo.specs.declared.Finish.the-variants.{Refused as Broken}
 use Rattle.s3_fifo.specs.Calls.{Said, gave, halted, turned, createdSays, ranSays, Follows, Called}

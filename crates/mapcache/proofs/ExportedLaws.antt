@@ -23,8 +23,8 @@ use Rattle.s3_fifo.specs.declared.Creation.the-variants.{Made, Refused as NotMa
 use Rattle.s3_fifo.specs.declared.Ran.{Ran}
 use Rattle.s3_fifo.specs.declared.Ran.the-variants.{Done, Refused}
 use Rattle.rules.specs.Feed.{completedOf}
-use Rattle.s3_fifo.specs.declared.Fed.{Fed}
-use Rattle.s3_fifo.specs.declared.Fed.the-variants.{Done as Given, Stopped, Refused as Away}
+use Rattle.runs.specs.declared.Fed.{Fed}
+use Rattle.runs.specs.declared.Fed.the-variants.{Done as Given, Stopped, Refused as Away}
 use Rattle.s3_fifo.specs.declared.Finish.{Finish}
 use Rattle.s3_fifo.specs.Feeds.{fedSays, finishSays, repliesIn, carriedOut}
 use Rattle.s3_fifo.specs.Streams.{NotTurned, Stream, over, feeds}

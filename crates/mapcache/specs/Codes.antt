@@ -9,7 +9,7 @@ use Rattle.s3_fifo.specs.declared.Creation.{Creation}
 use Rattle.s3_fifo.specs.declared.Ran.{Ran}
 use Rattle.rules.specs.declared.Turned.the-variants.{BadRecord}
 use Rattle.rules.specs.Refusals.{numberOf}
-use Rattle.s3_fifo.specs.declared.Fed.{Fed}
+use Rattle.runs.specs.declared.Fed.{Fed}
 use Rattle.s3_fifo.specs.declared.Finish.{Finish}
 use Rattle.s3_fifo.specs.Calls.{Said, gave, halted, turned, createdSays, ranSays, Created, Called}
 use Rattle.s3_fifo.specs.Feeds.{fedSays, finishSays, repliesIn, FedAs, FinishAs}

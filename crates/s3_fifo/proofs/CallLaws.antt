@@ -29,7 +29,8 @@ use Rattle.rules.specs.declared.Turned.{Turned}
 use Rattle.rules.specs.declared.Turned.the-variants.{ShortStore, DamagedStore, LongRequests, BadRecord, NoRoom}
 use Rattle.wire.specs.CarriedOut.{HasRoom}
 use Rattle.s3_fifo.specs.declared.Ran.the-variants.{Done, Refused}
-use Rattle.s3_fifo.specs.Runs.{Runs, TurnsAway}
+use Rattle.runs.specs.Runs.{Runs}
+use Rattle.s3_fifo.specs.Away.{TurnsAway}
 use Rattle.s3_fifo.specs.Calls.{gave, Called}
 
 -- ---- what the survey says of the verdict's rows

@@ -19,7 +19,7 @@ use Rattle.rules.specs.Feed.{Flow, still, onCarry, feedOn, completed, runsOver,
 use Rattle.rules.proofs.FeedCouldLaws.{feed-could}
 use Rattle.rules.proofs.CarriedLaws.{carry-written}
 use Rattle.store.specs.Holds.{Holds}
-use Rattle.s3_fifo.specs.declared.Fed.{Fed}
+use Rattle.runs.specs.declared.Fed.{Fed}
 use Rattle.s3_fifo.specs.Calls.{Said, gave, halted, turned, ReadsAs}
 use Rattle.s3_fifo.specs.Feeds.{fedSays, repliesIn, saidWith, FollowsFeed, FedAs}
 use Rattle.s3_fifo.specs.Streams.{NotTurned}

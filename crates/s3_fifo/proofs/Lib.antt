@@ -1,5 +1,4 @@
 pub mod CreateLaws
-pub mod RunLaws
 pub mod CallLaws
 pub mod FeedLaws
 pub mod OnceLaws

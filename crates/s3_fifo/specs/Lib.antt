@@ -1,5 +1,5 @@
 pub mod Calls
-pub mod Runs
+pub mod Away
 pub mod Feeds
 pub mod Once
 pub mod Chains

@@ -22,7 +22,7 @@ use Rattle.s3_fifo.specs.declared.Creation.{Creation}
 use Rattle.s3_fifo.specs.declared.Creation.the-variants.{Made}
 use Rattle.s3_fifo.specs.declared.Ran.{Ran}
 use Rattle.s3_fifo.specs.declared.Ran.the-variants.{Done}
-use Rattle.s3_fifo.specs.declared.Fed.{Fed}
+use Rattle.runs.specs.declared.Fed.{Fed}
 use Rattle.s3_fifo.specs.declared.Finish.{Finish}
 use Rattle.s3_fifo.specs.Calls.{ReadsAs, Created, Called}
 use Rattle.s3_fifo.specs.Feeds.{fedSays, finishSays, FedAs, verdictSays, FinishAs}

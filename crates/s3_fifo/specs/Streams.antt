@@ -5,7 +5,7 @@ use mathlib.Core.Path.{_≡_}
 use mathlib.Core.List.{List, [], _∷_, _++_}
 use Prim.Native.Nat.{ℕ}
 use lib.ListN.{take}
-use Rattle.s3_fifo.specs.declared.Fed.{Fed}
+use Rattle.runs.specs.declared.Fed.{Fed}
 use Rattle.s3_fifo.specs.declared.Finish.{Finish}
 use Rattle.s3_fifo.specs.declared.Finish.the-variants.{Complete}
 use Rattle.s3_fifo.specs.Feeds.{fedSays, repliesIn, FedAs, FinishAs}

@@ -1,11 +1,11 @@
--- `s3_fifo::run_from` meets its contract.
+-- `runs::run_from` meets its contract.
 -- Assumes nothing.
 use borrow.Author.Needs.{needs}
-use Rattle.s3_fifo.proofs.RunLaws.{Midway, midway-start, midway-held, midway-fits, midway-less, midway-next, midway-end, midway-unknown, midway-cut}
+use Rattle.runs.proofs.RunLaws.{Midway, midway-start, midway-held, midway-fits, midway-less, midway-next, midway-end, midway-unknown, midway-cut}
 use Prim.Native.Nat.{_-_}
 use lib.ListN.{length}
-use Rattle.s3_fifo.proofs.run_from.Statement.{statement}
-use Rattle.s3_fifo.proofs.run_from.Tie as tie
+use Rattle.runs.proofs.run_from.Statement.{statement}
+use Rattle.runs.proofs.run_from.Tie as tie
 
 abbrev Inv-loop : tie.InvT-loop
 Inv-loop store₀ z requests at replies₀ out from₀ end₀ store replies from end = Midway z store₀ store requests at replies₀ replies out from end

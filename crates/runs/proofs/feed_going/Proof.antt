@@ -1,10 +1,10 @@
--- `s3_fifo::feed_going` meets its contract.
+-- `runs::feed_going` meets its contract.
 -- Assumes nothing.
 use borrow.Author.Needs.{needs}
-use Rattle.s3_fifo.proofs.FeedLaws.{brings-long, brings-few, brings-waits, cut-part, cut-few, going-cut, going-unknown}
-use Rattle.s3_fifo.proofs.FeedLaws.{whole-part, whole-begun, whole-in, part-few, going-whole}
-use Rattle.s3_fifo.proofs.feed_going.Statement.{statement}
-use Rattle.s3_fifo.proofs.feed_going.Tie as tie
+use Rattle.runs.proofs.PieceLaws.{brings-long, brings-few, brings-waits, cut-part, cut-few, going-cut, going-unknown}
+use Rattle.runs.proofs.PieceLaws.{whole-part, whole-begun, whole-in, part-few, going-whole}
+use Rattle.runs.proofs.feed_going.Statement.{statement}
+use Rattle.runs.proofs.feed_going.Tie as tie
 
 ruleset bounds = (needs, brings-long, brings-few, brings-waits, cut-few, part-few, whole-in)
 

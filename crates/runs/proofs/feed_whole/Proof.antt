@@ -1,10 +1,10 @@
--- `s3_fifo::feed_whole` meets its contract.
+-- `runs::feed_whole` meets its contract.
 -- Assumes nothing.
 use borrow.Author.Needs.{needs}
-use Rattle.s3_fifo.proofs.FeedLaws.{rooms-fit, whole-refused, both-ready, end-fits, cut-inside, cut-room, whole-inside, whole-room}
-use Rattle.s3_fifo.proofs.FeedLaws.{whole-stopped, whole-cut, whole-done}
-use Rattle.s3_fifo.proofs.feed_whole.Statement.{statement}
-use Rattle.s3_fifo.proofs.feed_whole.Tie as tie
+use Rattle.runs.proofs.PieceLaws.{rooms-fit, whole-refused, both-ready, end-fits, cut-inside, cut-room, whole-inside, whole-room}
+use Rattle.runs.proofs.PieceLaws.{whole-stopped, whole-cut, whole-done}
+use Rattle.runs.proofs.feed_whole.Statement.{statement}
+use Rattle.runs.proofs.feed_whole.Tie as tie
 
 pub feed-whole-spec : {M : Type 1} → statement M
 feed-whole-spec =

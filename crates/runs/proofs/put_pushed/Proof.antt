@@ -1,9 +1,9 @@
--- `s3_fifo::put_pushed` meets its contract.
+-- `runs::put_pushed` meets its contract.
 -- Assumes nothing.
 use borrow.Author.Needs.{needs}
-use Rattle.s3_fifo.proofs.RunLaws.{put-nothing, put-small, put-main, small-fits, main-fits}
-use Rattle.s3_fifo.proofs.put_pushed.Statement.{statement}
-use Rattle.s3_fifo.proofs.put_pushed.Tie as tie
+use Rattle.runs.proofs.RunLaws.{put-nothing, put-small, put-main, small-fits, main-fits}
+use Rattle.runs.proofs.put_pushed.Statement.{statement}
+use Rattle.runs.proofs.put_pushed.Tie as tie
 
 pub put-pushed-spec : {M : Type 1} → statement M
 put-pushed-spec =

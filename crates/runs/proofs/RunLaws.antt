@@ -34,7 +34,7 @@ use Rattle.evict.specs.Evicts.{pushedOf}
 use Rattle.requests.specs.declared.Spoken.{Spoken}
 use Rattle.requests.specs.Answers.{spokenOf, Answers}
 use Rattle.store.specs.Holds.{stateIn, Held}
-use Rattle.s3_fifo.specs.Runs.{Runs}
+use Rattle.runs.specs.Runs.{Runs}
 
 -- ---- replies one after the other
 

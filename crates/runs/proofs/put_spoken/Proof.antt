@@ -1,9 +1,9 @@
--- `s3_fifo::put_spoken` meets its contract.
+-- `runs::put_spoken` meets its contract.
 -- Assumes nothing.
 use borrow.Author.Needs.{needs}
-use Rattle.s3_fifo.proofs.RunLaws.{first-fits, closing-fits, spoken-wrote}
-use Rattle.s3_fifo.proofs.put_spoken.Statement.{statement}
-use Rattle.s3_fifo.proofs.put_spoken.Tie as tie
+use Rattle.runs.proofs.RunLaws.{first-fits, closing-fits, spoken-wrote}
+use Rattle.runs.proofs.put_spoken.Statement.{statement}
+use Rattle.runs.proofs.put_spoken.Tie as tie
 
 pub put-spoken-spec : {M : Type 1} → statement M
 put-spoken-spec =

@@ -1,9 +1,9 @@
--- `s3_fifo::run_both` meets its contract.
+-- `runs::run_both` meets its contract.
 -- Assumes nothing.
 use borrow.Author.Needs.{needs}
-use Rattle.s3_fifo.proofs.FeedLaws.{head-ready, piece-ready, both-ran}
-use Rattle.s3_fifo.proofs.run_both.Statement.{statement}
-use Rattle.s3_fifo.proofs.run_both.Tie as tie
+use Rattle.runs.proofs.PieceLaws.{head-ready, piece-ready, both-ran}
+use Rattle.runs.proofs.run_both.Statement.{statement}
+use Rattle.runs.proofs.run_both.Tie as tie
 
 pub run-both-spec : {M : Type 1} → statement M
 run-both-spec =

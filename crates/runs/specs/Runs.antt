@@ -1,4 +1,4 @@
--- The parts of a call: what carrying out a list of requests leaves in the store that held a state, and in the reply buffer; and what turns all away.
+-- What carrying out a list of requests leaves in the store that held a state, and in the reply buffer; and what a feed of a stream that goes on leaves.
 -- Assumes nothing.
 use mathlib.Core.Path.{_≡_}
 use mathlib.Core.Bool.{true, false}
@@ -13,12 +13,9 @@ use Rattle.rules.specs.Bytes.{roomFor, encodeAll}
 use Rattle.rules.specs.Carry.{Carry, carryBytes, carryWritten}
 use Rattle.wire.specs.CarriedOut.{CarriedOut}
 use Rattle.store.specs.Holds.{stateIn, Held}
-use Rattle.rules.specs.declared.Turned.{Turned}
 use Rattle.rules.specs.declared.Turned.the-variants.{NoRoom}
-use Rattle.s3_fifo.specs.declared.Fed.{Fed}
-use Rattle.s3_fifo.specs.declared.Fed.the-variants.{Done as Given, Stopped, Refused as Away}
-use Rattle.s3_fifo.specs.declared.Ran.the-variants.{Refused}
-use Rattle.s3_fifo.specs.Calls.{Called}
+use Rattle.runs.specs.declared.Fed.{Fed}
+use Rattle.runs.specs.declared.Fed.the-variants.{Done as Given, Stopped, Refused as Away}
 
 -- rs were carried out on the store s, which became s′, and on the buffer p, which became p′, from `out` to r; peeks alone change no byte of the store; and the
 -- replies stay within their room
@@ -29,10 +26,6 @@ pub record Runs (z : Shape) (s s′ : List ℕ) (rs : List Request) (p p′ : Li
   pub same : length s′ ≡ length s
   pub untouched : AllPeeks rs → s′ ≡ s
   pub sized : length (encodeAll (run (stateIn z s) rs .replies)) ≤ roomFor rs
-
--- a call on the store s with the requests q is turned away for t, and changes nothing, whatever the reply buffer held
-pub record TurnsAway (s q : List ℕ) (t : Turned) : Type 0 where
-  pub called : (p : List ℕ) → Called s q p (Refused t) s p
 
 -- the requests rs were carried out, with n reply bytes in front of p′, and k stands in front of c′
 pub record FedRan (z : Shape) (s s′ c c′ p p′ : List ℕ) (rs : List Request) (k : Carry) (n : ℕ) : Type 0 where

@@ -3,6 +3,7 @@
 
 mod input;
 mod instructions;
+mod pieces;
 mod sides;
 mod stores;
 mod times;
@@ -18,6 +19,8 @@ const USAGE: &str = "usage:
   bench once SIDE CAPACITY PATTERN REQUESTS    one side alone (ours, original), for a profiler";
 
 const REQUESTS: u64 = 1_000_000;
+/// Fewer in pieces: the shortest have one request each, and each checks the store.
+const FED_REQUESTS: u64 = 100_000;
 /// Fewer under valgrind, which is slow and whose counts do not vary.
 const COUNTED_REQUESTS: u64 = 100_000;
 
@@ -34,6 +37,7 @@ fn all(requests: u64) -> Result<(), String> {
     println!("Processor: {}", machine());
     print_times(requests);
     print_stores();
+    print_pieces(FED_REQUESTS.min(requests));
     match instructions::possible() {
         true => print_instructions(COUNTED_REQUESTS.min(requests)),
         false => {
@@ -73,6 +77,22 @@ fn print_stores() {
     println!("\nA lookup in a full store, calls of at most 32,768 bytes:\n\n| store | ns |\n|---|---|");
     for kind in stores::FULL {
         println!("| {} | {} |", kind.name(), kind.lookup().as_nanos());
+    }
+}
+
+fn print_pieces(requests: u64) {
+    println!("\n{requests} requests as one stream, uniform keys, fed in pieces of one length:\n");
+    println!("| capacity | bytes a piece | ns a request | of calls of whole records, ns a request | fed / called |");
+    println!("|---|---|---|---|---|");
+    for capacity in CAPACITIES {
+        let input = input(capacity, Pattern::Uniform, requests, SEED);
+        let mut stream = pieces::Stream::of(&input);
+        let called = pieces::calls(&input).as_nanos() as f64 / requests as f64;
+        for length in pieces::LENGTHS {
+            assert!(stream.agrees(&input, length), "the replies differ");
+            let fed = stream.time(&input, length).as_nanos() as f64 / requests as f64;
+            println!("| {capacity} | {length} | {fed:.1} | {called:.1} | {:.2} |", fed / called);
+        }
     }
 }
 

@@ -6,24 +6,7 @@ use crate::stream::{self, Fed};
 use crate::verdict::Verdict;
 use crate::watch;
 use common::Random;
-
-// The declarations are the fuzzer's own, as its judge is.
-unsafe extern "C" {
-    fn mapcache_feed(
-        store: *mut u8,
-        store_len: usize,
-        carry: *mut u8,
-        carry_len: usize,
-        piece: *const u8,
-        piece_len: usize,
-        replies: *mut u8,
-        replies_len: usize,
-        replied: *mut u64,
-        detail: *mut u64,
-    ) -> i64;
-
-    fn mapcache_finish(carry: *const u8, carry_len: usize, detail: *mut u64) -> i64;
-}
+use mapcache::ffi;
 
 impl Calls {
     /// Feeds the piece to the store. Store and carry become what the call makes of them.
@@ -51,6 +34,7 @@ impl Calls {
         self.replies_are(&expected.verdict, filling)?;
         self.carry_is(&expected.carry)?;
         self.store_is(&expected.verdict, store)?;
+        self.store_stays_without_requests(&expected.verdict, store)?;
         self.nothing_beside_is_touched()?;
         carry.copy_from_slice(&expected.carry);
         self.take_over(&expected.verdict, store, random)?;
@@ -92,6 +76,16 @@ impl Calls {
         ))
     }
 
+    /// A feed that completes no request, and so replies nothing, changes no byte of the store.
+    fn store_stays_without_requests(&mut self, expected: &Verdict, before: &[u8]) -> Result<(), String> {
+        match expected {
+            Verdict::Done { replies, .. } if replies.is_empty() && self.store.bytes() != before => {
+                Err("a feed that completed no request changed the store".to_owned())
+            },
+            _ => Ok(()),
+        }
+    }
+
     fn carry_is(&mut self, right: &[u8]) -> Result<(), String> {
         let carry = self.carry.bytes();
         if carry == right { Ok(()) } else { Err(format!("the carry is {carry:02x?}; it must be {right:02x?}")) }
@@ -109,7 +103,7 @@ impl Calls {
         self.requests.read_only(true);
         // SAFETY: six mappings of their own, each good for its length, and no other thread.
         let answer = unsafe {
-            mapcache_feed(
+            ffi::mapcache_feed(
                 store,
                 store_len,
                 carry,
@@ -133,7 +127,7 @@ impl Calls {
         let (detail, _) = parts(self.detail.bytes());
         self.carry.read_only(true);
         // SAFETY: two mappings of their own, each good for its length, and no other thread.
-        let answer = unsafe { mapcache_finish(carry, carry_len, detail.cast()) };
+        let answer = unsafe { ffi::mapcache_finish(carry, carry_len, detail.cast()) };
         self.carry.read_only(false);
         answer
     }

@@ -1,8 +1,10 @@
 //! Every departure from the original, shown on a small input: what ours does, what the original does. The table of
 //! docs/DIFFERENCES.md is what this prints; each row is tried before it is printed.
 
-use crate::feed::{self, Answer, CARRY_BYTES};
-use mapcache::{DEFAULT_GHOST_RATIO, DEFAULT_SMALL_RATIO, GuestBlock, PhysicalBlock, Reply, Request, Settings};
+use crate::feed::{self, Answer};
+use mapcache::{
+    CARRY_BYTES, DEFAULT_GHOST_RATIO, DEFAULT_SMALL_RATIO, GuestBlock, PhysicalBlock, Reply, Request, Settings,
+};
 use original::driver::Original;
 use original::policy::s3_fifo::S3FifoCache;
 use original::state::State;

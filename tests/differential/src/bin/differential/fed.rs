@@ -1,10 +1,10 @@
 //! The same requests on a second store, as a stream in pieces that are cut anywhere.
 
 use crate::ending::Ending;
-use crate::feed::{Answer, CARRY_BYTES, feed, finish};
+use crate::feed::{Answer, feed, finish};
 use crate::pair::UNTOUCHED;
 use common::Random;
-use mapcache::{MOST_REQUEST_BYTES, Request};
+use mapcache::{CARRY_BYTES, MOST_REQUEST_BYTES, Request};
 
 /// What stands behind the carry, and must stay.
 const BEHIND: [u8; 8] = [UNTOUCHED; 8];

@@ -1,25 +1,7 @@
 //! The library's feed and finish, over slices. What they answer is held to the original by those who call them, so it is
 //! handed on as it is.
 
-unsafe extern "C" {
-    fn mapcache_feed(
-        store: *mut u8,
-        store_len: usize,
-        carry: *mut u8,
-        carry_len: usize,
-        piece: *const u8,
-        piece_len: usize,
-        replies: *mut u8,
-        replies_len: usize,
-        replied: *mut u64,
-        detail: *mut u64,
-    ) -> i64;
-
-    fn mapcache_finish(carry: *const u8, carry_len: usize, detail: *mut u64) -> i64;
-}
-
-/// What a feed carries to the next; a new stream has zeros.
-pub const CARRY_BYTES: usize = 32;
+use mapcache::ffi;
 
 /// What stands where a call writes a number, until it does.
 const UNWRITTEN: u64 = u64::MAX;
@@ -36,7 +18,7 @@ pub fn feed(store: &mut [u8], carry: &mut [u8], piece: &[u8], replies: &mut [u8]
     let (mut replied, mut detail) = (UNWRITTEN, UNWRITTEN);
     // SAFETY: slices that are good for their lengths and do not overlap, as three are borrowed for writing, and two numbers.
     let answer = unsafe {
-        mapcache_feed(
+        ffi::mapcache_feed(
             store.as_mut_ptr(),
             store.len(),
             carry.as_mut_ptr(),
@@ -56,6 +38,6 @@ pub fn feed(store: &mut [u8], carry: &mut [u8], piece: &[u8], replies: &mut [u8]
 pub fn finish(carry: &[u8]) -> (i64, u64) {
     let mut detail = UNWRITTEN;
     // SAFETY: a slice that is good for its length, and a number.
-    let answer = unsafe { mapcache_finish(carry.as_ptr(), carry.len(), &mut detail) };
+    let answer = unsafe { ffi::mapcache_finish(carry.as_ptr(), carry.len(), &mut detail) };
     (answer, detail)
 }

@@ -15,9 +15,9 @@ use Rattle.cells.specs.Cells.{le}
 use Rattle.cells.specs.Decides.{Decides}
 use Rattle.rules.specs.Bytes.{spotAt, readAt}
 use Rattle.rules.specs.Carry.{lastOffset, waits, carryBytes, carryWritten, CarryAs}
-use Rattle.rules.proofs.FeedCouldLaws.{and-both, and-true}
+use Rattle.rules.proofs.CouldLaws.{and-both, and-true, waits-few, could-even, could-stop, could-wait, could-few, stop-could, wait-could}
 use Rattle.rules.proofs.HeadLaws.{pending, read-pending}
-use Rattle.rules.proofs.CarryLaws.{waits-few, could-even, could-stop, could-wait, could-few, stop-could, wait-could, shown, only-shown, count-shown}
+use Rattle.rules.proofs.CarryLaws.{shown, only-shown, count-shown}
 use Rattle.wire.specs.declared.Record.{Record}
 use Rattle.wire.specs.declared.Record.the-variants.{Ask, Unknown, Cut, End}
 use Rattle.wire.specs.declared.Request.{Request as Request·}

@@ -10,7 +10,8 @@ use lib.Seq.{take-at, drop-at}
 use Rattle.cells.specs.Cells.{Bytes}
 use Rattle.rules.specs.Carry.{Carry, couldLeave, carryBytes, carryWritten, CarryAs, Carried, unfit, carries, ReadsCarry}
 use Rattle.rules.proofs.ByteLaws.{bytes-take, bytes-drop}
-use Rattle.rules.proofs.CarryLaws.{could-few, carry-length, only-shown, carry-one}
+use Rattle.rules.proofs.CouldLaws.{could-few}
+use Rattle.rules.proofs.CarryLaws.{carry-length, only-shown, carry-one}
 
 pub carried-once : (bs : List ℕ) (a b : Carried) → ReadsCarry bs a → ReadsCarry bs b → a ≡ b
 carried-once bs unfit unfit h g = refl

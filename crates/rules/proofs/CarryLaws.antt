@@ -1,76 +1,19 @@
 -- The laws of the carried record's bytes: what they say of the record that was written, and that they can be no other.
 -- Assumes nothing.
-use Prim.Native.Nat.{ℕ, _+_, _-_, _%_, _≤_}
+use Prim.Native.Nat.{ℕ, _-_, _≤_}
 use native.Mathlib.Omega.{arith}
-use borrow.Author.Tests.{leb-true, le-leb, eqb-true, eq-eqb}
 use mathlib.Core.Path.{_≡_, refl, sym, ap, _∙_}
-use mathlib.Core.Bool.{Bool, true, false, cond, _&&_}
-use mathlib.Core.List.{List, [], _∷_, _++_, append-assoc}
-use lib.Dec.{eqb, leb}
+use mathlib.Core.Bool.{Bool, true, false}
+use mathlib.Core.List.{List, _∷_, _++_, append-assoc}
+use lib.Dec.{eqb}
 use lib.ListN.{length, getD, take, drop, replicate, take-append-drop, length-append, length-replicate}
 use lib.Seq.{take-append-seam}
 use Rattle.cells.specs.Cells.{le}
-use Rattle.rules.specs.Parts.{null, bit}
-use Rattle.rules.specs.Bytes.{bytesOf, Spot, at, unknown, cut, over, spotAt}
-use Rattle.rules.specs.Carry.{Carry, lastOffset, waits, even, couldStop, couldWait, couldLeave, carryBytes, keptRoom, carryWritten, CarryAs}
+use Rattle.rules.specs.Parts.{bit}
+use Rattle.rules.specs.Bytes.{bytesOf}
+use Rattle.rules.specs.Carry.{Carry, lastOffset, carryBytes, keptRoom, carryWritten, CarryAs}
 use Rattle.rules.proofs.TripLaws.{bytes-length, le-bytes}
-use Rattle.rules.proofs.FeedCouldLaws.{and-both, and-true, cut-short, nothing-kept, over-nil}
-
--- ---- a record that a feed could have left
-
--- what waits is shorter than the longest record
-pub waits-few : (s : List ℕ) → waits (spotAt s 0) ≡ true → length s ≤ 17
-waits-few s w = go (spotAt s 0) refl w
-  where
-    go : (p : Spot) → spotAt s 0 ≡ p → waits p ≡ true → length s ≤ 17
-    go (at k) e w = let z : _≡_ {A = ℕ} 0 1 = cc in absurd (omega arith)
-    go unknown e w = let z : _≡_ {A = ℕ} 0 1 = cc in absurd (omega arith)
-    go cut e w = omega (arith, cut-short s e)
-    go over e w = omega (arith, ap length (over-nil s e))
-
--- its two tests
-could-parts : (c : Carry) → couldLeave c ≡ true → (even (c .offset) ≡ true) × (cond (c .stopped) (couldStop c) (couldWait c) ≡ true)
-unfolding couldLeave
-could-parts c h = and-both (even (c .offset)) (cond (c .stopped) (couldStop c) (couldWait c)) h
-
-module _ (c : Carry) (h : couldLeave c ≡ true) where
-  -- its offset is even
-  pub could-even : c .offset % 2 ≡ 0
-  could-even = eqb-true (c .offset % 2) 0 (could-parts c h .0)
-
-  -- of a stream that has stopped: nothing is kept, and both bytes of the mark have come
-  pub could-stop : c .stopped ≡ true → (c .kept ≡ []) × (c .offset + 2 ≤ lastOffset)
-  could-stop e =
-      let p : couldStop c ≡ true = rw e at (could-parts c h .1) in
-      let q = and-both (null (c .kept)) (leb (c .offset + 2) lastOffset) p in
-      (nothing-kept (c .kept) (q .0), leb-true (c .offset + 2) lastOffset (q .1))
-
-  -- of one that goes on: what is kept waits
-  pub could-wait : c .stopped ≡ false → (waits (spotAt (c .kept) 0) ≡ true) × (c .offset + length (c .kept) ≤ lastOffset)
-  could-wait e =
-      let p : couldWait c ≡ true = rw e at (could-parts c h .1) in
-      let q = and-both (waits (spotAt (c .kept) 0)) (leb (c .offset + length (c .kept)) lastOffset) p in
-      (q .0, leb-true (c .offset + length (c .kept)) lastOffset (q .1))
-
-  -- of both: few bytes are kept, and the offset is one
-  pub could-few : (length (c .kept) ≤ 17) × (c .offset ≤ lastOffset)
-  could-few = go (c .stopped) refl
-    where
-      go : (t : Bool) → c .stopped ≡ t → (length (c .kept) ≤ 17) × (c .offset ≤ lastOffset)
-      go true e = let q = could-stop e in omega (arith, ap length (q .0), q .1)
-      go false e = let q = could-wait e in omega (arith, waits-few (c .kept) (q .0), q .1)
-
--- and the other way round
-pub stop-could : (o : ℕ) → o % 2 ≡ 0 → o + 2 ≤ lastOffset → couldLeave (record { offset = o; kept = []; stopped = true }) ≡ true
-unfolding couldLeave
-stop-could o e h = and-true (even o) (leb (o + 2) lastOffset) (eq-eqb (o % 2) 0 e) (le-leb (o + 2) lastOffset h)
-
-pub wait-could : (o : ℕ) (k : List ℕ) → o % 2 ≡ 0 → waits (spotAt k 0) ≡ true → o + length k ≤ lastOffset
-    → couldLeave (record { offset = o; kept = k; stopped = false }) ≡ true
-unfolding couldLeave
-wait-could o k e w h =
-    and-true (even o) (waits (spotAt k 0) && leb (o + length k) lastOffset) (eq-eqb (o % 2) 0 e)
-    (and-true (waits (spotAt k 0)) (leb (o + length k) lastOffset) w (le-leb (o + length k) lastOffset h))
+use Rattle.rules.proofs.CouldLaws.{could-few}
 
 -- ---- the record's bytes
 

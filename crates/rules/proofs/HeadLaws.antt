@@ -21,7 +21,7 @@ use Rattle.rules.specs.Carry.{waits, leftBy}
 use Rattle.rules.proofs.TableLaws.{find-known, row-kind, row-bytes}
 use Rattle.rules.proofs.ParseLaws.{Lies, spot-lies, read-goes, read-end, parse-step}
 use Rattle.rules.proofs.FeedLaws.{made-front, read-front, Firm, shift, parse-drop, left-shift}
-use Rattle.rules.proofs.FeedCouldLaws.{cut-short, cut-parse}
+use Rattle.rules.proofs.CouldLaws.{cut-short, cut-parse}
 
 -- ---- a record that is whole reads the same in its own bytes
 

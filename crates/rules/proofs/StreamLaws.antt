@@ -19,8 +19,8 @@ use Rattle.rules.proofs.TableLaws.{row-bytes, room-made}
 use Rattle.rules.proofs.ParseLaws.{read-goes, parse-step, spot-drop}
 use Rattle.rules.proofs.PartsLaws.{total-append}
 use Rattle.rules.proofs.FeedLaws.{feed-glued}
-use Rattle.rules.proofs.FeedCouldLaws.{Ends, parse-ends-from, cut-short, over-nil, cut-parse}
-use Rattle.rules.proofs.CarryLaws.{could-wait, could-few}
+use Rattle.rules.proofs.CouldLaws.{cut-short, cut-parse, over-nil, could-wait, could-few}
+use Rattle.rules.proofs.ReachLaws.{Ends, parse-ends-from}
 
 -- ---- a feed of nothing
 

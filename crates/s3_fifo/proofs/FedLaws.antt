@@ -16,7 +16,7 @@ use Rattle.rules.specs.Refusals.{numberOf, detailOf, storeBytes, mostRequestByt
 use Rattle.rules.specs.Verdict.{Verdict, turnedAway, Reads, short, damaged, reads}
 use Rattle.rules.specs.Carry.{Carry, carryBytes, carryWritten, CarryAs, Carried, unfit, carries, ReadsCarry}
 use Rattle.rules.specs.Feed.{Flow, still, onCarry, feedOn, completed, runsOver, Onward, fed, feed}
-use Rattle.rules.proofs.FeedCouldLaws.{feed-could}
+use Rattle.rules.proofs.ReachLaws.{feed-could}
 use Rattle.rules.proofs.CarriedLaws.{carry-written}
 use Rattle.store.specs.Holds.{Holds}
 use Rattle.runs.specs.declared.Fed.{Fed}

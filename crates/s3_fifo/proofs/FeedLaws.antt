@@ -21,7 +21,7 @@ use Rattle.rules.specs.Refusals.{numberOf, detailOf, storeBytes, mostRequestByt
 use Rattle.rules.specs.Verdict.{short, damaged, reads}
 use Rattle.rules.specs.Carry.{Carry, lastOffset, leftBy, unfit, carries}
 use Rattle.rules.specs.Feed.{feedOn, completed, feed, finishOn}
-use Rattle.rules.proofs.FeedCouldLaws.{some-kept}
+use Rattle.rules.proofs.ReachLaws.{some-kept}
 use Rattle.wire.specs.Wire.{splice}
 use Rattle.carry.specs.declared.Brought.{Brought}
 use Rattle.carry.specs.declared.Brought.the-variants.{Going, Stopped as Halted, Unfit}

@@ -1,6 +1,6 @@
 -- The theorem behind crates/s3_fifo/specs/Promises.antt.
 -- Assumes nothing.
-use Rattle.rules.proofs.FeedCouldLaws.{could-reach, reach-could}
+use Rattle.rules.proofs.ReachLaws.{could-reach, reach-could}
 use Rattle.s3_fifo.specs.Promises.{Promises}
 use Rattle.s3_fifo.proofs.OnceLaws.{created-once, called-once, fed-once, finished-once}
 use Rattle.s3_fifo.proofs.FedLaws.{fed-intact, fed-fit}

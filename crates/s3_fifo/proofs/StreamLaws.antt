@@ -14,7 +14,7 @@ use Rattle.rules.specs.Carry.{Carry, opening, carryBytes, carryWritten, CarryAs
 use Rattle.rules.specs.Feed.{Flow, feedOn, feedAll, glued, finishOn, ended}
 use Rattle.rules.proofs.RoomLaws.{encode-append}
 use Rattle.rules.proofs.CarriedLaws.{carried-once, carry-surplus}
-use Rattle.rules.proofs.FeedCouldLaws.{finish-is}
+use Rattle.rules.proofs.ReachLaws.{finish-is}
 use Rattle.rules.proofs.StreamLaws.{feed-all, any-cutting}
 use Rattle.store.specs.Holds.{Holds}
 use Rattle.s3_fifo.specs.declared.Ran.the-variants.{Done}

@@ -1,46 +1,33 @@
--- Which records a feed can leave: exactly those that pass the test of refusal 17. And what a finish says of the whole stream.
+-- Feeds leave exactly the carried records that pass the test of refusal 17. And what a finish says of the whole stream.
 -- Assumes nothing.
 use Prim.Native.Nat.{ℕ, zero, suc, _+_, _-_, _*_, _/_, _%_, _≤_, _<_}
 use native.Mathlib.Omega.{arith}
 use native.Mathlib.Nat.{add-zero}
-use borrow.Author.Tests.{le-leb, leb-true, leb-false, ltb-true, ltb-false, le-ltb, eqb-true, eq-eqb}
+use borrow.Author.Tests.{leb-false, ltb-false, le-ltb}
 use mathlib.Core.Path.{_≡_, refl, sym, ap, _∙_, subst}
-use mathlib.Core.Bool.{Bool, true, false, cond, _&&_}
+use mathlib.Core.Bool.{Bool, true, false, cond}
 use mathlib.Core.List.{List, [], _∷_, _++_}
-use mathlib.Core.Option.{Option, none, some}
 use lib.Dec.{leb, ltb}
 use lib.ListN.{length, getD, drop, length-append, length-drop}
 use Rattle.cells.specs.Cells.{Bytes, le}
-use Rattle.rules.specs.declared.Kind.{Kind}
-use Rattle.rules.specs.declared.Kind.the-variants.{Get, Peek, Remove, Insert, Evict, Clear}
-use Rattle.rules.specs.declared.Row.{Row}
 use Rattle.rules.specs.declared.Turned.{Turned}
 use Rattle.rules.specs.declared.Turned.the-variants.{LongRequests, BadRecord, NoRoom, BadCarry}
 use Rattle.rules.specs.Parts.{null}
 use Rattle.rules.specs.State.{Limits, State, emptyAt, Sound}
 use Rattle.rules.specs.Records.{Request, CL}
 use Rattle.rules.specs.Requests.{run, apply}
-use Rattle.rules.specs.Bytes.{row, table, find, Spot, at, unknown, cut, over, within, spotAt, Reading, ask, strange, short, end, reading, readAt}
+use Rattle.rules.specs.Bytes.{table, find, Spot, at, unknown, cut, over, within, spotAt, Reading, ask, strange, short, end, reading, readAt}
 use Rattle.rules.specs.Bytes.{End, whole, unknownAt, cutAt, Parsed, onReading, walk, parseFrom, parse, roomFor, encodeAll}
 use Rattle.rules.specs.Refusals.{mostRequestBytes}
 use Rattle.rules.specs.Verdict.{Verdict, refused, done, turnedAway, unless, reads}
-use Rattle.rules.specs.Carry.{Carry, opening, leftBy, lastOffset, waits, even, couldStop, couldWait, couldLeave, carries}
+use Rattle.rules.specs.Carry.{Carry, opening, leftBy, lastOffset, waits, couldLeave, carries}
 use Rattle.rules.specs.Feed.{Onward, onCarry, feedOn, completed, runsOver, feedRows, feed, finishOn, ended, Reached, begins, feeds}
-use Rattle.rules.proofs.TableLaws.{find-known}
 use Rattle.rules.proofs.SoundLaws.{empty-sound}
 use Rattle.rules.proofs.ParseLaws.{read-goes, parse-step, spot-drop}
 use Rattle.rules.proofs.FeedLaws.{end-end}
+use Rattle.rules.proofs.CouldLaws.{even-row, cut-short, cut-parse, over-nil, could-even, could-stop, could-wait, stop-could, wait-could}
 
 -- ---- where reading ends
-
--- a record has an even number of bytes, at most 18
-even-row : (k : Kind) → (row k .bytes % 2 ≡ 0) × (row k .bytes ≤ 18)
-even-row Get = (refl, omega arith)
-even-row Peek = (refl, omega arith)
-even-row Remove = (refl, omega arith)
-even-row Insert = (refl, omega arith)
-even-row Evict = (refl, omega arith)
-even-row Clear = (refl, omega arith)
 
 abbrev pub Ends : List ℕ → ℕ → End → Type 0
 Ends s i whole = length s % 2 ≡ i % 2
@@ -102,44 +89,27 @@ module _ (s : List ℕ) where
 
 -- ---- what a feed leaves passes
 
-pub and-both : (s t : Bool) → (s && t) ≡ true → (s ≡ true) × (t ≡ true)
-and-both true true h = (refl, refl)
-and-both true false h = let z : _≡_ {A = ℕ} 0 1 = cc in absurd (omega arith)
-and-both false t h = let z : _≡_ {A = ℕ} 0 1 = cc in absurd (omega arith)
-
-pub and-true : (a b : Bool) → a ≡ true → b ≡ true → (a && b) ≡ true
-and-true a b e f = rw (e, f)
-
-even-true : (n : ℕ) → n % 2 ≡ 0 → even n ≡ true
-even-true n h = eq-eqb (n % 2) 0 h
-
 left-could : (o : ℕ) (s : List ℕ) (e : End) → o % 2 ≡ 0 → o + length s ≤ lastOffset → Ends s 0 e → couldLeave (leftBy o s e) ≡ true
-unfolding couldLeave
-left-could o s whole h l f = and-true _ _ (even-true (o + length s) (omega arith)) (le-leb (o + length s + 0) lastOffset (omega arith))
+unfolding spotAt
+left-could o s whole h l f = wait-could (o + length s) [] (omega arith) refl (omega arith)
 left-could o s (cutAt c) h l f =
     let g = length-drop c s in
     let b = f .1 in
-    let w : waits (spotAt (drop c s) 0) ≡ true = ap waits (spot-drop c s 0 ∙ ap (spotAt s) (add-zero c) ∙ f .2) in
-    and-true _ _ (even-true (o + c) (omega (arith, f .0))) (and-true _ _ w (le-leb (o + c + length (drop c s)) lastOffset (omega arith)))
-left-could o s (unknownAt c) h l f =
-    let b = f .1 in
-    and-true _ _ (even-true (o + c) (omega (arith, f .0))) (le-leb (o + c + 2) lastOffset (omega arith))
+    wait-could (o + c) (drop c s) (omega (arith, f .0)) (ap waits (spot-drop c s 0 ∙ ap (spotAt s) (add-zero c) ∙ f .2)) (omega arith)
+left-could o s (unknownAt c) h l f = let b = f .1 in stop-could (o + c) (omega (arith, f .0)) (omega arith)
 
 pub feed-could : (σ : State) (c : Carry) (piece : List ℕ) → couldLeave c ≡ true → runsOver c (length piece) ≡ false
     → couldLeave (feedOn σ c piece .carry) ≡ true
-unfolding feedOn couldLeave
+unfolding feedOn
 feed-could σ c piece h r = go (c .stopped) refl
   where
-    parts : (even (c .offset) ≡ true) × (cond (c .stopped) (couldStop c) (couldWait c) ≡ true)
-    parts = and-both (even (c .offset)) (cond (c .stopped) (couldStop c) (couldWait c)) h
-
     go : (t : Bool) → c .stopped ≡ t → couldLeave (onCarry σ c piece t .carry) ≡ true
     go true e = h
     go false e =
         let s = c .kept ++ piece in
         let n = length-append (c .kept) piece in
         let r′ : ltb lastOffset (c .offset + length (c .kept) + length piece) ≡ false = rw e at r in
-        left-could (c .offset) s (parse s .end) (eqb-true (c .offset % 2) 0 (parts .0))
+        left-could (c .offset) s (parse s .end) (could-even c h)
         (omega (arith, ltb-false lastOffset (c .offset + length (c .kept) + length piece) r′)) (parse-ends s)
 
 -- ---- what passes is left by feeds that are accepted
@@ -165,10 +135,6 @@ accepted c bytes rs room v b d e f = rw (b, le-ltb mostRequestBytes bytes d, e, 
 abbrev left : State → Carry → List ℕ → Verdict Onward
 left τ d bs = done (record { state = τ; carry = d }) bs
 
-rests-could : (o : ℕ) → o % 2 ≡ 0 → o ≤ lastOffset → couldLeave (waiting o []) ≡ true
-unfolding couldLeave
-rests-could o h l = and-true _ _ (even-true o h) (le-leb (o + 0) lastOffset (omega arith))
-
 abbrev clears : List ℕ
 clears = 67 ∷ 76 ∷ []
 
@@ -190,27 +156,6 @@ at-offset (suc n) h =
     let e : 2 * n + 2 ≡ 2 * suc n = omega arith in
     subst (λ (o : ℕ). Reached (waiting o [])) e
     (feeds clears 2 (at-offset n (omega arith)) least-sound clear-bytes (clear-fed (2 * n) (omega arith) (omega arith)))
-
--- a record that waits has at most 17 bytes
-pub cut-short : (s : List ℕ) → spotAt s 0 ≡ cut → length s < 18
-unfolding spotAt
-cut-short s e = pick (leb (length s) 0) refl (ltb (length s - 0) 2) refl (find (getD s 0 0) (getD s 1 0) table) refl e
-  where
-    pick : (t : Bool) → leb (length s) 0 ≡ t → (u : Bool) → ltb (length s - 0) 2 ≡ u → (f : Option Row) → find (getD s 0 0) (getD s 1 0) table ≡ f
-        → cond t over (cond u cut (within (length s - 0) f)) ≡ cut → length s < 18
-    pick true g u h f k e = omega (arith, leb-true (length s) 0 g)
-    pick false g true h f k e = omega (arith, ltb-true (length s - 0) 2 h)
-    pick false g false h none k e = let z : _≡_ {A = ℕ} 0 1 = cc in absurd (omega arith)
-    pick false g false h (some r) k e = inner (ltb (length s - 0) (r .bytes)) refl e
-      where
-        inner : (v : Bool) → ltb (length s - 0) (r .bytes) ≡ v → cond v cut (at (r .kind)) ≡ cut → length s < 18
-        inner true m e =
-            omega (arith, ltb-true (length s - 0) (r .bytes) m, ap (λ (x : Row). x .bytes) (find-known (getD s 0 0) (getD s 1 0) r k), even-row (r .kind))
-        inner false m e = let z : _≡_ {A = ℕ} 0 1 = cc in absurd (omega arith)
-
-pub cut-parse : (s : List ℕ) → spotAt s 0 ≡ cut → parse s ≡ record { requests = []; end = cutAt 0 }
-unfolding parse readAt
-cut-parse s e = parse-step s 0 ∙ ap (onReading (parseFrom s) 0) (ap (reading s 0) e)
 
 kept-fed : (o : ℕ) (s : List ℕ) → o % 2 ≡ 0 → o + length s ≤ lastOffset → spotAt s 0 ≡ cut
     → feed (reads (emptyAt least)) (carries (waiting o [])) s 0 ≡ left (emptyAt least) (waiting (o + 0) s) []
@@ -234,30 +179,14 @@ unfolding feed feedOn completed parse parseFrom walk readAt spotAt find table ru
 halt-fed o h l =
     accepted (waiting o []) 2 [] 0 _ (le-ltb lastOffset (o + 0 + 2) (omega arith)) (omega arith) refl (omega arith)
 
-pub nothing-kept : (l : List ℕ) → null l ≡ true → l ≡ []
-nothing-kept [] h = refl
-nothing-kept (x ∷ l) h = let z : _≡_ {A = ℕ} 0 1 = cc in absurd (omega arith)
-
-pub over-nil : (s : List ℕ) → spotAt s 0 ≡ over → s ≡ []
-unfolding readAt
-over-nil [] e = refl
-over-nil (x ∷ s) e = let g = end-end (x ∷ s) 0 (ap (reading (x ∷ s) 0) e) in absurd (omega arith)
-
 pub could-reach : (c : Carry) → Bytes (c .kept) → couldLeave c ≡ true → Reached c
-unfolding couldLeave
 could-reach c b h = go (c .stopped) refl
   where
-    parts : (even (c .offset) ≡ true) × (cond (c .stopped) (couldStop c) (couldWait c) ≡ true)
-    parts = and-both (even (c .offset)) (cond (c .stopped) (couldStop c) (couldWait c)) h
-
     o : ℕ
     o = c .offset
 
-    two : o % 2 ≡ 0
-    two = eqb-true (o % 2) 0 (parts .0)
-
     half : 2 * (o / 2) ≡ o
-    half = omega (arith, two)
+    half = omega (arith, could-even c h)
 
     from : o ≤ lastOffset → Reached (waiting o [])
     from l = subst (λ (n : ℕ). Reached (waiting n [])) half (at-offset (o / 2) (omega (arith, half)))
@@ -266,21 +195,20 @@ could-reach c b h = go (c .stopped) refl
     waits-go (at k) e w l = let z : _≡_ {A = ℕ} 0 1 = cc in absurd (omega arith)
     waits-go unknown e w l = let z : _≡_ {A = ℕ} 0 1 = cc in absurd (omega arith)
     waits-go cut e w l =
-        subst (λ (n : ℕ). Reached (waiting n (c .kept))) (add-zero o) (feeds (c .kept) 0 (from (omega arith)) least-sound b (kept-fed o (c .kept) two l e))
+        subst (λ (n : ℕ). Reached (waiting n (c .kept))) (add-zero o)
+        (feeds (c .kept) 0 (from (omega arith)) least-sound b (kept-fed o (c .kept) (could-even c h) l e))
     waits-go over e w l = subst (λ (k : List ℕ). Reached (waiting o k)) (sym (over-nil (c .kept) e)) (from (omega arith))
 
     go : (t : Bool) → c .stopped ≡ t → Reached c
     go true e =
-        let p : couldStop c ≡ true = rw e at (parts .1) in
-        let q = and-both (null (c .kept)) (leb (o + 2) lastOffset) p in
-        let l = leb-true (o + 2) lastOffset (q .1) in
-        let f : Reached (halted (o + 0)) = feeds nonsense 0 (from (omega arith)) least-sound nonsense-bytes (halt-fed o two l) in
+        let q = could-stop c h e in
+        let l = q .1 in
+        let f : Reached (halted (o + 0)) = feeds nonsense 0 (from (omega arith)) least-sound nonsense-bytes (halt-fed o (could-even c h) l) in
         let r : Reached (halted o) = subst (λ (n : ℕ). Reached (halted n)) (add-zero o) f in
-        subst Reached (λ i. record { offset = o; kept = sym (nothing-kept (c .kept) (q .0)) i; stopped = sym e i }) r
+        subst Reached (λ i. record { offset = o; kept = sym (q .0) i; stopped = sym e i }) r
     go false e =
-        let p : couldWait c ≡ true = rw e at (parts .1) in
-        let q = and-both (waits (spotAt (c .kept) 0)) (leb (o + length (c .kept)) lastOffset) p in
-        let r = waits-go (spotAt (c .kept) 0) refl (q .0) (leb-true (o + length (c .kept)) lastOffset (q .1)) in
+        let q = could-wait c h e in
+        let r = waits-go (spotAt (c .kept) 0) refl (q .0) (q .1) in
         subst Reached (λ i. record { offset = o; kept = c .kept; stopped = sym e i }) r
 
 -- ---- and the other way round: whatever feeds leave passes
@@ -293,8 +221,8 @@ passed true why v e = no-feed e
 passed false why v e = (refl, e)
 
 opening-could : couldLeave opening ≡ true
-unfolding couldLeave
-opening-could = rests-could 0 refl (omega arith)
+unfolding spotAt
+opening-could = wait-could 0 [] refl refl (omega arith)
 
 pub reach-could : {c : Carry} → Reached c → couldLeave c ≡ true
 unfolding feed

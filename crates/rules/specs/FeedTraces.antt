@@ -11,7 +11,7 @@ use Rattle.rules.specs.Records.{IN, NW, ES}
 use Rattle.rules.specs.Bytes.{written, allWritten, encodeAll, mark}
 use Rattle.rules.specs.Refusals.{mostRequestBytes}
 use Rattle.rules.specs.Verdict.{Reads, short, damaged, reads, Verdict, refused, done}
-use Rattle.rules.specs.Carry.{Carry, opening, Carried, unfit, carries}
+use Rattle.rules.specs.Carry.{Carry, opening, carryBytes, carryWritten, Carried, unfit, carries}
 use Rattle.rules.specs.Feed.{Onward, feed, finishOn}
 
 -- a stream that goes on, and one that has stopped
@@ -74,6 +74,8 @@ abbrev pub fedAs : Feeding → Verdict Onward
 fedAs r = feed (r .store) (r .carry) (r .piece) (r .room)
 
 pub record FeedRows : Type 0 where
+  -- a new stream is so many zeros
+  pub zeros : carryWritten opening ≡ replicate carryBytes 0
   pub feeds : map fedAs feedings ≡ map (λ (r : Feeding). r .gives) feedings
   -- a piece that is too long: 17 comes before its 8, and 8 before the 9 of a stream that has stopped
   pub long : map (λ (c : Carry). feed (reads none) (carries c) (replicate (suc mostRequestBytes) 0) 0) (goes (2 ^ 64 - 2) [] ∷ opening ∷ halts 18 ∷ [])

@@ -11,10 +11,10 @@ use lib.Seq.{length-take-le}
 use borrow.Author.Tests.{not-true, not-false, eqb-true, eq-eqb, ne-eqb, leb-true, le-leb, lt-leb}
 use mir.Syntax.{w8, w64}
 use mir.Val.{Fits}
+use Rattle.rules.specs.Carry.{mostKept, lastOffset, waits, carryBytes, carryWritten, CarryAs}
 use Rattle.cells.specs.Cells.{le}
 use Rattle.cells.specs.Decides.{Decides}
 use Rattle.rules.specs.Bytes.{spotAt, readAt}
-use Rattle.rules.specs.Carry.{lastOffset, waits, carryBytes, carryWritten, CarryAs}
 use Rattle.rules.proofs.CouldLaws.{and-both, and-true, waits-few, could-even, could-stop, could-wait, could-few, stop-could, wait-could}
 use Rattle.rules.proofs.HeadLaws.{pending, read-pending}
 use Rattle.rules.proofs.CarryLaws.{shown, only-shown, count-shown}
@@ -25,7 +25,7 @@ use Rattle.wire.specs.Wire.{meaning}
 use Rattle.carry.specs.declared.Brought.{Brought}
 use Rattle.carry.specs.declared.Brought.the-variants.{Going, Stopped, Unfit}
 use Rattle.carry.proofs.FormLaws.{kept-part}
-use Rattle.carry.specs.Carries.{mostKept, keptIn, FormOf, Halts, GoesOn, Brings}
+use Rattle.carry.specs.Carries.{keptIn, FormOf, Halts, GoesOn, Brings}
 
 -- a byte fits any width
 pub cast8 : (xs : List ℕ) (i : ℕ) → ((k : ℕ) → Fits w8 (getD xs k 0)) → Fits w64 (getD xs i 0)

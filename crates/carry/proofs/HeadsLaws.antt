@@ -8,9 +8,9 @@ use native.Mathlib.Nat.{add-zero, sub-zero}
 use native.Mathlib.Omega.{arith}
 use lib.ListN.{length, take, drop, length-append, length-drop, drop-of-length-le}
 use lib.Seq.{take-all, length-take-le, take-take, take-at, take-append-add, take-length, drop-at}
+use Rattle.rules.specs.Bytes.{longestRecord, ask, strange, short, spotAt, readAt, unknownAt, ends, walk, parseFrom, parse}
+use Rattle.rules.specs.Carry.{mostKept, waits, leftBy, carryBytes}
 use Rattle.rules.specs.Records.{Request}
-use Rattle.rules.specs.Bytes.{ask, strange, short, spotAt, readAt, unknownAt, ends, walk, parseFrom, parse}
-use Rattle.rules.specs.Carry.{waits, leftBy, carryBytes}
 use Rattle.rules.proofs.ParseLaws.{read-goes}
 use Rattle.rules.proofs.FeedLaws.{end-end}
 use Rattle.rules.proofs.HeadLaws.{front-read, short-few, short-parse, strange-parse, past-kept, past-within, join-requests, join-left}
@@ -19,7 +19,7 @@ use Rattle.wire.specs.declared.Record.the-variants.{Ask, Unknown as Unknown·, 
 use Rattle.wire.specs.declared.Request.{Request as Request·}
 use Rattle.wire.specs.Wire.{asked, meaning}
 use Rattle.carry.specs.declared.Head.the-variants.{Whole, Cut, Unknown}
-use Rattle.carry.specs.Carries.{mostKept, headBytes, keptIn}
+use Rattle.carry.specs.Carries.{keptIn}
 use Rattle.carry.proofs.FormLaws.{kept-part}
 use Rattle.carry.specs.Heads.{Completes, StillCut, HeadJoins, HeadFilled, Lesser}
 
@@ -40,8 +40,8 @@ overlaid k p head n l {h₁} {part} {h₂} e f g =
     g ∙ ap₂ (λ (x y : List ℕ). x ++ (part ++ y)) front none ∙ ap (λ (x : List ℕ). k ++ x) (append-nil part ∙ second) ∙ sym (append-assoc k p d)
 
 -- the bytes kept, and as many of the piece as there is room for
-module _ (bs piece head : List ℕ) (count m : ℕ) (long : carryBytes ≤ length bs) (few : count ≤ mostKept) (room : length head ≡ headBytes)
-    (least : Lesser (length piece) (headBytes - count) m) where
+module _ (bs piece head : List ℕ) (count m : ℕ) (long : carryBytes ≤ length bs) (few : count ≤ mostKept) (room : length head ≡ longestRecord)
+    (least : Lesser (length piece) (longestRecord - count) m) where
   abbrev k : List ℕ
   k = keptIn bs count
 
@@ -166,7 +166,7 @@ module _ {kept piece head : List ℕ} {n : ℕ} (f : HeadFilled kept piece head 
   pub joins-cut : r ≡ Cut· → HeadJoins kept piece head (Cut n)
   joins-cut g =
       let a : readAt (take n (kept ++ piece)) 0 ≡ short = front ∙ ap meaning g in
-      let few : n < headBytes = omega (arith, short-few (take n (kept ++ piece)) a, front-length) in
+      let few : n < longestRecord = omega (arith, short-few (take n (kept ++ piece)) a, front-length) in
       let all : take n (kept ++ piece) ≡ kept ++ piece = take-all n (kept ++ piece) (omega (arith, f .full few)) in
       cut-joins n (record {
         fits = omega (arith, f .fits, f .long);

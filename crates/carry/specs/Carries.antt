@@ -11,13 +11,6 @@ use Rattle.rules.specs.Carry.{Carry, lastOffset, waits, carryBytes, carryWritte
 use Rattle.carry.specs.declared.Brought.{Brought}
 use Rattle.carry.specs.declared.Brought.the-variants.{Going, Stopped, Unfit}
 
--- the bytes of the longest record, and how many bytes are kept of one at the most
-abbrev pub headBytes : ℕ
-headBytes = 18
-
-abbrev pub mostKept : ℕ
-mostKept = 17
-
 -- so many bytes kept, in the bytes lent
 abbrev pub keptIn : List ℕ → ℕ → List ℕ
 keptIn bs n = take n (drop 10 bs)

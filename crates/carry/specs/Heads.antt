@@ -4,9 +4,8 @@ use mathlib.Core.Path.{_≡_}
 use mathlib.Core.List.{List, _++_}
 use Prim.Native.Nat.{ℕ, _+_, _-_, _≤_, _<_}
 use lib.ListN.{length, take}
-use Rattle.rules.specs.Bytes.{unknownAt, cutAt, ends, parseFrom, parse}
-use Rattle.rules.specs.Carry.{leftBy}
-use Rattle.carry.specs.Carries.{mostKept, headBytes}
+use Rattle.rules.specs.Bytes.{longestRecord, unknownAt, cutAt, ends, parseFrom, parse}
+use Rattle.rules.specs.Carry.{mostKept, leftBy}
 use Rattle.carry.specs.declared.Head.{Head}
 use Rattle.carry.specs.declared.Head.the-variants.{Whole, Cut, Unknown}
 
@@ -32,11 +31,11 @@ pub record HeadJoins (kept piece head : List ℕ) (r : Head) : Type 0 where
 
 -- the first n bytes of the buffer are the first of the bytes kept with the piece behind them: as many as there are, and as a record can have
 pub record HeadFilled (kept piece head : List ℕ) (n : ℕ) : Type 0 where
-  pub long : length head ≡ headBytes
-  pub fits : n ≤ headBytes
+  pub long : length head ≡ longestRecord
+  pub fits : n ≤ longestRecord
   pub begun : length kept ≤ n
   pub within : n ≤ length (kept ++ piece)
-  pub full : n < headBytes → n ≡ length (kept ++ piece)
+  pub full : n < longestRecord → n ≡ length (kept ++ piece)
   pub bytes : take n head ≡ take n (kept ++ piece)
 
 -- the lesser of a and b

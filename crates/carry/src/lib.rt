@@ -4,10 +4,10 @@ ghost use mathlib.Core.Path.{_≡_};
 ghost use mathlib.Core.Bool.{true};
 ghost use Prim.Native.Nat.{_+_, _≤_};
 ghost use lib.ListN.{length, drop, replicate};
+ghost use Rattle.rules.specs.Bytes.{longestRecord, spotAt};
+ghost use Rattle.rules.specs.Carry.{mostKept, waits, carryBytes, keptRoom};
 ghost use Rattle.cells.specs.Decides.{Decides};
-ghost use Rattle.rules.specs.Bytes.{spotAt};
-ghost use Rattle.rules.specs.Carry.{waits, carryBytes, keptRoom};
-ghost use Rattle.carry.specs.Carries.{mostKept, headBytes, keptIn, LaidOut, FormOf, Halts, GoesOn, Brings, CarryPut};
+ghost use Rattle.carry.specs.Carries.{keptIn, LaidOut, FormOf, Halts, GoesOn, Brings, CarryPut};
 ghost use Rattle.carry.specs.Heads.{Lesser, HeadFilled, HeadJoins};
 use wire::Record;
 
@@ -148,7 +148,7 @@ fn lesser(a: usize, b: usize) -> usize
 
 // Puts the bytes kept and the first of the piece into the buffer, as many as a record can have, and gives how many they are.
 fn fill_head(carry: &[u8], count: usize, piece: &[u8], head: &mut [u8]) -> usize
-    requires { ⌜ (carryBytes ≤ length (now carry)) × (count ≤ mostKept) × (length (now head) ≡ headBytes) ⌝ }
+    requires { ⌜ (carryBytes ≤ length (now carry)) × (count ≤ mostKept) × (length (now head) ≡ longestRecord) ⌝ }
     ensures { λ r. ⌜ HeadFilled (keptIn (now (carry .entry)) count) (now (piece .entry)) (now (head .exit)) r ⌝ }
 {
     bytes::copy(&carry[KEPT_AT..KEPT_AT + count], head);
@@ -160,7 +160,7 @@ fn fill_head(carry: &[u8], count: usize, piece: &[u8], head: &mut [u8]) -> usize
 // The record that the bytes kept begin, put together in the buffer with the piece's first bytes.
 pub fn join(carry: &[u8], count: usize, piece: &[u8], head: &mut [u8]) -> Head
     requires { ⌜ (carryBytes ≤ length (now carry)) × (count ≤ mostKept) × (waits (spotAt (keptIn (now carry) count) 0) ≡ true)
-        × (length (now head) ≡ headBytes) ⌝ }
+        × (length (now head) ≡ longestRecord) ⌝ }
     ensures { λ r. ⌜ HeadJoins (keptIn (now (carry .entry)) count) (now (piece .entry)) (now (head .exit)) r ⌝ }
 {
     if count == 0 {

@@ -13,9 +13,9 @@ use Rattle.rules.specs.declared.Kind.{Kind}
 use Rattle.rules.specs.declared.Kind.the-variants.{Get, Peek, Remove, Insert, Evict, Clear}
 use Rattle.rules.specs.declared.Row.{Row}
 use Rattle.rules.specs.Parts.{null}
-use Rattle.rules.specs.Bytes.{row, table, find, Spot, at, unknown, cut, over, within, spotAt, reading, readAt}
+use Rattle.rules.specs.Bytes.{longestRecord, row, table, find, Spot, at, unknown, cut, over, within, spotAt, reading, readAt}
 use Rattle.rules.specs.Bytes.{cutAt, onReading, parseFrom, parse}
-use Rattle.rules.specs.Carry.{Carry, lastOffset, waits, even, couldStop, couldWait, couldLeave}
+use Rattle.rules.specs.Carry.{Carry, mostKept, lastOffset, waits, even, couldStop, couldWait, couldLeave}
 use Rattle.rules.proofs.TableLaws.{find-known}
 use Rattle.rules.proofs.ParseLaws.{parse-step}
 use Rattle.rules.proofs.FeedLaws.{end-end}
@@ -32,8 +32,8 @@ and-true a b e f = rw (e, f)
 
 -- ---- what waits for more
 
--- a record has an even number of bytes, at most 18
-pub even-row : (k : Kind) → (row k .bytes % 2 ≡ 0) × (row k .bytes ≤ 18)
+-- a record has an even number of bytes
+pub even-row : (k : Kind) → (row k .bytes % 2 ≡ 0) × (row k .bytes ≤ longestRecord)
 even-row Get = (refl, omega arith)
 even-row Peek = (refl, omega arith)
 even-row Remove = (refl, omega arith)
@@ -41,19 +41,19 @@ even-row Insert = (refl, omega arith)
 even-row Evict = (refl, omega arith)
 even-row Clear = (refl, omega arith)
 
--- a record that waits has at most 17 bytes
-pub cut-short : (s : List ℕ) → spotAt s 0 ≡ cut → length s < 18
+-- a record that waits is shorter than the longest
+pub cut-short : (s : List ℕ) → spotAt s 0 ≡ cut → length s < longestRecord
 unfolding spotAt
 cut-short s e = pick (leb (length s) 0) refl (ltb (length s - 0) 2) refl (find (getD s 0 0) (getD s 1 0) table) refl e
   where
     pick : (t : Bool) → leb (length s) 0 ≡ t → (u : Bool) → ltb (length s - 0) 2 ≡ u → (f : Option Row) → find (getD s 0 0) (getD s 1 0) table ≡ f
-        → cond t over (cond u cut (within (length s - 0) f)) ≡ cut → length s < 18
+        → cond t over (cond u cut (within (length s - 0) f)) ≡ cut → length s < longestRecord
     pick true g u h f k e = omega (arith, leb-true (length s) 0 g)
     pick false g true h f k e = omega (arith, ltb-true (length s - 0) 2 h)
     pick false g false h none k e = let z : _≡_ {A = ℕ} 0 1 = cc in absurd (omega arith)
     pick false g false h (some r) k e = inner (ltb (length s - 0) (r .bytes)) refl e
       where
-        inner : (v : Bool) → ltb (length s - 0) (r .bytes) ≡ v → cond v cut (at (r .kind)) ≡ cut → length s < 18
+        inner : (v : Bool) → ltb (length s - 0) (r .bytes) ≡ v → cond v cut (at (r .kind)) ≡ cut → length s < longestRecord
         inner true m e =
             omega (arith, ltb-true (length s - 0) (r .bytes) m, ap (λ (x : Row). x .bytes) (find-known (getD s 0 0) (getD s 1 0) r k), even-row (r .kind))
         inner false m e = let z : _≡_ {A = ℕ} 0 1 = cc in absurd (omega arith)
@@ -74,10 +74,10 @@ over-nil (x ∷ s) e = let g = end-end (x ∷ s) 0 (ap (reading (x ∷ s) 0) e) 
 -- ---- a record that a feed could have left
 
 -- what waits is shorter than the longest record
-pub waits-few : (s : List ℕ) → waits (spotAt s 0) ≡ true → length s ≤ 17
+pub waits-few : (s : List ℕ) → waits (spotAt s 0) ≡ true → length s ≤ mostKept
 waits-few s w = go (spotAt s 0) refl w
   where
-    go : (p : Spot) → spotAt s 0 ≡ p → waits p ≡ true → length s ≤ 17
+    go : (p : Spot) → spotAt s 0 ≡ p → waits p ≡ true → length s ≤ mostKept
     go (at k) e w = let z : _≡_ {A = ℕ} 0 1 = cc in absurd (omega arith)
     go unknown e w = let z : _≡_ {A = ℕ} 0 1 = cc in absurd (omega arith)
     go cut e w = omega (arith, cut-short s e)
@@ -108,10 +108,10 @@ module _ (c : Carry) (h : couldLeave c ≡ true) where
       (q .0, leb-true (c .offset + length (c .kept)) lastOffset (q .1))
 
   -- of both: few bytes are kept, and the offset is one
-  pub could-few : (length (c .kept) ≤ 17) × (c .offset ≤ lastOffset)
+  pub could-few : (length (c .kept) ≤ mostKept) × (c .offset ≤ lastOffset)
   could-few = go (c .stopped) refl
     where
-      go : (t : Bool) → c .stopped ≡ t → (length (c .kept) ≤ 17) × (c .offset ≤ lastOffset)
+      go : (t : Bool) → c .stopped ≡ t → (length (c .kept) ≤ mostKept) × (c .offset ≤ lastOffset)
       go true e = let q = could-stop e in omega (arith, ap length (q .0), q .1)
       go false e = let q = could-wait e in omega (arith, waits-few (c .kept) (q .0), q .1)
 

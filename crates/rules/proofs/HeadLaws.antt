@@ -14,7 +14,7 @@ use lib.Seq.{length-take-le, getD-take, take-append-le, drop-append-add}
 use Rattle.rules.specs.declared.Kind.{Kind}
 use Rattle.rules.specs.declared.Row.{Row}
 use Rattle.rules.specs.Records.{Request}
-use Rattle.rules.specs.Bytes.{row, table, find, Spot, at, unknown, cut, over, within, spotAt, made}
+use Rattle.rules.specs.Bytes.{longestRecord, row, table, find, Spot, at, unknown, cut, over, within, spotAt, made}
 use Rattle.rules.specs.Bytes.{Reading, ask, strange, short, end, reading, readAt, whole, unknownAt, cutAt}
 use Rattle.rules.specs.Bytes.{Parsed, ends, with, onReading, parseFrom, parse}
 use Rattle.rules.specs.Carry.{waits, leftBy}
@@ -135,7 +135,7 @@ cut-spot s e = go (spotAt s 0) e
     go over e = let z : _≡_ {A = ℕ} 0 1 = cc in absurd (omega arith)
 
 -- a record that is cut has less than 18 bytes
-pub short-few : (s : List ℕ) → readAt s 0 ≡ short → length s < 18
+pub short-few : (s : List ℕ) → readAt s 0 ≡ short → length s < longestRecord
 short-few s e = cut-short s (cut-spot s e)
 
 -- nothing else is read then, nor where a mark is none

@@ -10,10 +10,9 @@ use lib.ListN.{length, drop, length-append, length-drop}
 use Rattle.rules.specs.State.{State}
 use Rattle.rules.specs.Records.{Request}
 use Rattle.rules.specs.Requests.{run}
-use Rattle.rules.specs.Bytes.{Spot, at, unknown, cut, over, spotAt, Reading, ask, strange, short, end, reading, readAt}
+use Rattle.rules.specs.Bytes.{Spot, at, unknown, cut, over, spotAt, Reading, ask, strange, short, end, reading, readAt, roomToByte, roomOf, roomFor}
 use Rattle.rules.specs.Bytes.{End, whole, unknownAt, cutAt, Parsed, onReading, walk, parseFrom, parse}
-use Rattle.rules.specs.Bytes.{roomOf, roomFor}
-use Rattle.rules.specs.Carry.{Carry, waits, couldLeave, carries}
+use Rattle.rules.specs.Carry.{Carry, mostKept, waits, couldLeave, carries}
 use Rattle.rules.specs.Feed.{still, flow, flowing, onCarry, feedOn, feedAll, glued, completed, completedOf}
 use Rattle.rules.proofs.TableLaws.{row-bytes, room-made}
 use Rattle.rules.proofs.ParseLaws.{read-goes, parse-step, spot-drop}
@@ -74,9 +73,9 @@ any-cutting σ c h ps qs e = feed-all σ c h ps ∙ ap (feedOn σ c) e ∙ sym (
 
 -- ---- reply room that always suffices
 
--- a record of so many bytes asks for at most 18 times as much
+-- a record of so many bytes asks for at most so many times as much
 abbrev Costs : ℕ → Reading Request → Type 0
-Costs i (ask q after) = roomOf q + 18 * i ≤ 18 * after
+Costs i (ask q after) = roomOf q + roomToByte * i ≤ roomToByte * after
 Costs i strange = Unit {0}
 Costs i short = Unit {0}
 Costs i end = Unit {0}
@@ -93,7 +92,7 @@ module _ (s : List ℕ) where
       go over = tt
 
   abbrev Bounded : ℕ → Parsed Request → Type 0
-  Bounded i p = roomFor (p .requests) + 18 * i ≤ 18 * length s
+  Bounded i p = roomFor (p .requests) + roomToByte * i ≤ roomToByte * length s
 
   room-step : (i : ℕ) → i ≤ length s → ((after : ℕ) → i < after → after ≤ length s → Bounded after (parseFrom s after))
       → (r : Reading Request) → readAt s i ≡ r → Costs i r → Bounded i (onReading (parseFrom s) i r)
@@ -108,11 +107,11 @@ module _ (s : List ℕ) where
   room-at (suc m) i h g =
       subst (Bounded i) (sym (parse-step s i)) (room-step i h (λ after l k. room-at m after k (omega arith)) (readAt s i) refl (costs i))
 
-  pub parse-room : (i : ℕ) → i ≤ length s → roomFor (parseFrom s i .requests) ≤ 18 * length s
+  pub parse-room : (i : ℕ) → i ≤ length s → roomFor (parseFrom s i .requests) ≤ roomToByte * length s
   parse-room i h = omega (arith, room-at (length s) i h (omega arith))
 
--- what a piece completes, with the 17 bytes that may be kept before it
-pub feed-room : (c : Carry) (piece : List ℕ) → couldLeave c ≡ true → roomFor (completed c piece) ≤ 18 * (length piece + 17)
+-- what a piece completes, with the bytes that may be kept before it
+pub feed-room : (c : Carry) (piece : List ℕ) → couldLeave c ≡ true → roomFor (completed c piece) ≤ roomToByte * (length piece + mostKept)
 unfolding completed parse
 feed-room c piece h = omega (arith, parse-room (c .kept ++ piece) 0 (omega arith), length-append (c .kept) piece, could-few c h)
 
@@ -126,7 +125,7 @@ room-append a b = total-append roomOf a b
 abbrev pub EndsIn : List ℕ → End → Type 0
 EndsIn s whole = Unit {0}
 EndsIn s (unknownAt c) = c ≤ length s
-EndsIn s (cutAt c) = (c ≤ length s) × (length s ≤ c + 17)
+EndsIn s (cutAt c) = (c ≤ length s) × (length s ≤ c + mostKept)
 
 ends-in : (s : List ℕ) (i : ℕ) (e : End) → Ends s i e → EndsIn s e
 ends-in s i whole h = tt

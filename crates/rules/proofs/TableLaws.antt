@@ -12,7 +12,7 @@ use lib.Seq.{drop-cons}
 use Rattle.rules.specs.declared.Row.{Row}
 use Rattle.rules.specs.declared.Kind.{Kind}
 use Rattle.rules.specs.declared.Kind.the-variants.{Get, Peek, Remove, Insert, Evict, Clear}
-use Rattle.rules.specs.Bytes.{row, kinds, table, marks, find, made, roomOf}
+use Rattle.rules.specs.Bytes.{row, kinds, table, marks, find, made, roomToByte, roomOf}
 
 -- inside the list the default is never read
 pub getD-any : {A : Type 0} (l : List A) (i : ℕ) (d e : A) → i < length l → getD l i d ≡ getD l i e
@@ -46,7 +46,7 @@ row-kind Evict = refl
 row-kind Clear = refl
 
 -- a record has its mark at least; a request of 2 bytes may be answered by 36
-pub row-bytes : (k : Kind) → (2 ≤ row k .bytes) × (row k .room ≤ 18 * row k .bytes)
+pub row-bytes : (k : Kind) → (2 ≤ row k .bytes) × (row k .room ≤ roomToByte * row k .bytes)
 row-bytes Get = omega arith
 row-bytes Peek = omega arith
 row-bytes Remove = omega arith

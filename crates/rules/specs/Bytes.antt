@@ -65,6 +65,13 @@ kindOf (IN k v) = Insert
 kindOf EV = Evict
 kindOf CL = Clear
 
+-- the bytes of the longest record, and the most reply room for each byte of one: EV has 2 bytes, and 36 of room
+abbrev pub longestRecord : ℕ
+longestRecord = 18
+
+abbrev pub roomToByte : ℕ
+roomToByte = 18
+
 -- the reply room of a request, and of all requests of a run
 abbrev pub roomOf : Request → ℕ
 roomOf r = row (kindOf r) .room

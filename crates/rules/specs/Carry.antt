@@ -7,7 +7,7 @@ use mathlib.Core.List.{List, [], _∷_, _++_}
 use lib.Dec.{eqb, leb}
 use lib.ListN.{length, take, drop, replicate}
 use Rattle.rules.specs.Parts.{null, bit}
-use Rattle.rules.specs.Bytes.{bytesOf, Spot, at, unknown, cut, over, spotAt, End, whole, unknownAt, cutAt}
+use Rattle.rules.specs.Bytes.{bytesOf, longestRecord, Spot, at, unknown, cut, over, spotAt, End, whole, unknownAt, cutAt}
 
 -- the bytes kept of a record that is cut, and the offset in the stream at which they start; or the offset of the unknown mark that stopped the stream
 pub record Carry : Type 0 where
@@ -58,9 +58,12 @@ couldLeave c = even (c .offset) && cond (c .stopped) (couldStop c) (couldWait c)
 abbrev pub carryBytes : ℕ
 carryBytes = 32
 
--- what there is for the bytes kept
+-- what there is for the bytes kept, and how many of a record are kept at the most
 abbrev pub keptRoom : ℕ
 keptRoom = 22
+
+abbrev pub mostKept : ℕ
+mostKept = longestRecord - 1
 
 unfoldable pub carryWritten : Carry → List ℕ
 unfolding bytesOf

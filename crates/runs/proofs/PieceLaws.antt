@@ -9,13 +9,13 @@ use native.Mathlib.Nat.{add-zero, sub-zero}
 use lib.ListN.{length, take, drop, length-take, drop-of-length-le}
 use mir.Syntax.{w64}
 use mir.Val.{Fits}
+use Rattle.rules.specs.Bytes.{longestRecord, spotAt, End, whole, unknownAt, cutAt, Parsed, parseFrom, parse, roomFor, encodeAll}
+use Rattle.rules.specs.Carry.{mostKept, Carry, waits, lastOffset, leftBy, carryBytes, keptRoom}
 use Rattle.nodes.specs.declared.Shape.{Shape}
 use Rattle.rules.specs.declared.Turned.the-variants.{NoRoom}
 use Rattle.rules.specs.Records.{Request}
 use Rattle.rules.specs.Requests.{run}
-use Rattle.rules.specs.Bytes.{spotAt, End, whole, unknownAt, cutAt, Parsed, parseFrom, parse, roomFor, encodeAll}
 use Rattle.rules.specs.Refusals.{mostRequestBytes}
-use Rattle.rules.specs.Carry.{Carry, waits, lastOffset, leftBy, carryBytes, keptRoom}
 use Rattle.rules.proofs.StreamLaws.{parse-room, room-append, EndsIn, parse-within}
 use Rattle.wire.specs.declared.Stop.{Stop}
 use Rattle.wire.specs.declared.Stop.the-variants.{Whole as All, Unknown as Strange, Cut as Short}
@@ -25,7 +25,7 @@ use Rattle.wire.specs.CarriedOut.{HasRoom}
 use Rattle.carry.specs.declared.Brought.the-variants.{Going}
 use Rattle.carry.specs.declared.Head.{Head}
 use Rattle.carry.specs.declared.Head.the-variants.{Whole, Cut, Unknown}
-use Rattle.carry.specs.Carries.{headBytes, mostKept, keptIn, Brings, CarryPut}
+use Rattle.carry.specs.Carries.{keptIn, Brings, CarryPut}
 use Rattle.carry.specs.Heads.{HeadJoins}
 use Rattle.carry.proofs.CarriesLaws as lent
 use Rattle.store.specs.Holds.{Held}
@@ -45,7 +45,7 @@ module _ (head piece : List ℕ) (from : ℕ) {v w : Survey} (g : v ≡ surveyed
   rooms : v .room + w .room ≡ roomFor both
   rooms = ap₂ (λ (x y : Survey). x .room + y .room) g h ∙ sym (room-append (parse head .requests) (parseFrom piece from .requests))
 
-  module _ (few : length head ≤ headBytes) (in-piece : from ≤ length piece) (most : length piece ≤ mostRequestBytes) where
+  module _ (few : length head ≤ longestRecord) (in-piece : from ≤ length piece) (most : length piece ≤ mostRequestBytes) where
     -- a sum that fits
     pub rooms-fit : Fits w64 (v .room + w .room)
     unfolding parse
@@ -196,7 +196,7 @@ module _ {bs : List ℕ} {o n : ℕ} (b : Brings bs (Going o n)) where
   brings-waits = lent.going-waits b refl
 
 -- the buffer has the bytes of one record
-pub part-few : (m : ℕ) (head : List ℕ) → length head ≡ headBytes → length (take (m - 0) head) ≤ headBytes
+pub part-few : (m : ℕ) (head : List ℕ) → length head ≡ longestRecord → length (take (m - 0) head) ≤ longestRecord
 part-few m head h = omega (arith, length-take (m - 0) head)
 
 -- no request was carried out

@@ -3,12 +3,12 @@
 ghost use mathlib.Core.List.{_++_};
 ghost use Prim.Native.Nat.{_+_, _≤_};
 ghost use lib.ListN.{length};
-ghost use Rattle.rules.specs.Bytes.{encodeAll, parseFrom, parse};
+ghost use Rattle.rules.specs.Bytes.{longestRecord, encodeAll, parseFrom, parse};
 ghost use Rattle.rules.specs.Carry.{lastOffset, carryBytes, leftBy};
 ghost use Rattle.rules.specs.Refusals.{mostRequestBytes};
 ghost use Rattle.wire.specs.Wire.{Wrote};
 ghost use Rattle.wire.specs.CarriedOut.{HasRoom};
-ghost use Rattle.carry.specs.Carries.{headBytes, keptIn, Brings};
+ghost use Rattle.carry.specs.Carries.{keptIn, Brings};
 ghost use Rattle.evict.specs.Evicts.{pushedOf};
 ghost use Rattle.requests.specs.Answers.{spokenOf};
 ghost use Rattle.store.specs.Holds.{Held};
@@ -117,7 +117,7 @@ fn feed_whole(
     replies: &mut [u8],
 ) -> Fed
     requires { ⌜ Held z (now store) × (carryBytes ≤ length (now carry)) × (from ≤ length (now piece)) × (length (now piece) ≤ mostRequestBytes)
-        × (length (now head) ≤ headBytes) × (base + length (now piece) ≤ lastOffset) ⌝ }
+        × (length (now head) ≤ longestRecord) × (base + length (now piece) ≤ lastOffset) ⌝ }
     ensures { λ r. ⌜ FedOn z (now (store .entry)) (now (store .exit)) (now (carry .entry)) (now (carry .exit)) (now (replies .entry)) (now (replies .exit))
         (parse (now (head .entry)) .requests ++ parseFrom (now (piece .entry)) from .requests)
         (leftBy base (now (piece .entry)) (parseFrom (now (piece .entry)) from .end)) r ⌝ }

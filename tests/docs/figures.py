@@ -125,6 +125,7 @@ def rows(said, machine, original):
 
 MAY_BE_MISSING = {
     "host in C under valgrind, 300 random calls: checks",
+    "host in C under valgrind, 50 random streams: checks",
     "example host, over the original: runs in which a block comes to belong to two",
     "differential run: requests", "differential run: calls", "differential run: requests fed", "differential run: pieces",
     "differential run: kinds of event",

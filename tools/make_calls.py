@@ -5,7 +5,8 @@ STEPS (crates/recorded/data/calls.bin) is for the program `recorded` and for the
 each with 32 bytes in front (kind, store bytes lent, reply room, number; lengths of input and output; detail), input and output.
 CASES is for the replay program, written when it is tested: lengths of input and output, settings and requests, and what the
 program must write. PROGRAM (crates/replay) is the folder whose stdin and stdout are trace B and its answer, which the replay
-program is run on when it is proved. This is the one table of refused calls: a new refusal gets its cases here.
+program is run on when it is proved. This is the one table of refused creations and runs: a new refusal of those
+gets its cases here; those of feeds and finishes stand in host/c/feed.c.
 
 The answers are written out here by hand from that page. Nothing is asked of the library, and no rule is worked out.
 """

@@ -1,4 +1,4 @@
-/* A host in C: the worked traces, the recorded steps with every refusal on both sides of its limit, and random calls with
+/* A host in C: the worked traces, the recorded steps with every refusal of a creation and of a run on both sides of its limit, and random calls with
  * a ledger. Requests in pieces are in feed.c.
  *
  * usage: test STEPS [random calls [file]]: STEPS is what tools/make_calls.py writes; the file gets the store as trace D

@@ -22,20 +22,23 @@ use Rattle.s3_fifo.specs.declared.Creation.{Creation}
 use Rattle.s3_fifo.specs.declared.Creation.the-variants.{Made, Refused as NotMade}
 use Rattle.s3_fifo.specs.declared.Ran.{Ran}
 use Rattle.s3_fifo.specs.declared.Ran.the-variants.{Done, Refused}
-use Rattle.rules.specs.Feed.{completedOf}
+use Rattle.rules.specs.Bytes.{parse}
+use Rattle.rules.specs.Carry.{opening, CarryAs}
+use Rattle.rules.specs.Feed.{completedOf, glued, ended}
 use Rattle.runs.specs.declared.Fed.{Fed}
 use Rattle.runs.specs.declared.Fed.the-variants.{Done as Given, Stopped, Refused as Away}
 use Rattle.s3_fifo.specs.declared.Finish.{Finish}
-use Rattle.s3_fifo.specs.Feeds.{fedSays, finishSays, repliesIn, carriedOut}
+use Rattle.s3_fifo.specs.Feeds.{fedSays, finishSays, repliesIn, carriedOut, verdictSays}
 use Rattle.s3_fifo.specs.Streams.{NotTurned, Stream, over, feeds}
 use Rattle.s3_fifo.specs.Calls.{Said, gave, halted, turned, createdSays, ranSays, Follows, Created, Called}
 use Rattle.s3_fifo.specs.Once.{Agrees}
 use Rattle.s3_fifo.specs.Chains.{Chain, start, accepted, refused, fed}
 use Rattle.s3_fifo.proofs.ChainLaws.{created-intact, called-intact}
-use Rattle.s3_fifo.proofs.StreamLaws.{cut-anywhere, as-one-call}
+use Rattle.s3_fifo.proofs.StreamLaws.{cut-anywhere, as-one-call, finish-says}
+use Rattle.s3_fifo.proofs.FedLaws.{fed-intact, fed-fit}
 use Rattle.s3_fifo.proofs.OnceLaws as once
 use Rattle.mapcache.specs.Codes.{codeOf, detailIn, CreatedAs, CalledAs, FedWith, FinishedWith}
-use Rattle.mapcache.specs.Exported.{Negative, OneOutcome, OneFed, Streamed, over as over·, feeds as feeds·, Exported}
+use Rattle.mapcache.specs.Exported.{Negative, OneOutcome, nine, OneFed, Streamed, over as over·, feeds as feeds·, Exported}
 
 -- ---- what a code and a detail say
 
@@ -51,13 +54,13 @@ below-minus : (n : ℕ) → below (negℤ (pos n)) ≡ n
 below-minus zero = refl
 below-minus (suc n) = refl
 
--- a refusal has a number
-abbrev Numbered : Said → Type 0
-Numbered (gave n) = Unit {0}
-Numbered (halted n d) = ⊥
-Numbered (turned n d) = 1 ≤ n
+-- a refusal has a number; what a stop of a stream has to be is left to say
+abbrev Numbered : Type 0 → Said → Type 0
+Numbered P (gave n) = Unit {0}
+Numbered P (halted n d) = P
+Numbered P (turned n d) = 1 ≤ n
 
-code-once : (a b : Said) → Numbered a → Numbered b → codeOf a ≡ codeOf b → detailIn a ≡ detailIn b → a ≡ b
+code-once : (a b : Said) → Numbered ⊥ a → Numbered ⊥ b → codeOf a ≡ codeOf b → detailIn a ≡ detailIn b → a ≡ b
 code-once (gave n) (gave m) h g e d = ap gave (ap above e)
 code-once (gave n) (turned m f) h g e d = absurd (omega (arith, ap below e, below-minus m))
 code-once (gave n) (halted m f) h g e d = absurd g
@@ -66,11 +69,11 @@ code-once (halted n d) b h g e k = absurd h
 code-once (turned n d) (gave m) h g e f = absurd (omega (arith, ap below e, below-minus n))
 code-once (turned n d) (turned m f) h g e k = ap₂ turned (sym (below-minus n) ∙ ap below e ∙ below-minus m) k
 
-numbered-ran : (r : Ran) → Numbered (ranSays r)
+numbered-ran : (r : Ran) → Numbered ⊥ (ranSays r)
 numbered-ran (Done n) = tt
 numbered-ran (Refused t) = some-number t
 
-numbered-created : (r : Creation) → Numbered (createdSays r)
+numbered-created : (r : Creation) → Numbered ⊥ (createdSays r)
 numbered-created Made = tt
 numbered-created (NotMade t) = some-number t
 
@@ -117,7 +120,7 @@ created-apart r t c d e =
 
 -- ---- one outcome
 
-refused-bytes : (a : Said) {m : ℤ} {s₁ s₂ : List ℕ} → Numbered a → m ≡ codeOf a → Agrees a s₁ s₂ → Negative m → s₁ ≡ s₂
+refused-bytes : (a : Said) {m : ℤ} {s₁ s₂ : List ℕ} → Numbered ⊥ a → m ≡ codeOf a → Agrees a s₁ s₂ → Negative m → s₁ ≡ s₂
 refused-bytes (gave n) k e g h = absurd (subst Negative e h)
 refused-bytes (halted n d) k e g h = absurd k
 refused-bytes (turned n d) k e g h = g .refused-same n d refl
@@ -178,6 +181,12 @@ chain-stays {s} {q} {p} {s′} {p′} {m} {d} {σ₀} {rs} {bs} g c h = by-answe
 
 -- ---- feeds and streams
 
+-- another refusal than 9 leaves the store as it was
+fed-same : (a : Said) {m : ℤ} {s₁ s₂ : List ℕ} → m ≡ codeOf a → Agrees a s₁ s₂ → Negative m → (m ≡ nine → ⊥) → s₁ ≡ s₂
+fed-same (gave n) e g h k = absurd (subst Negative e h)
+fed-same (halted n d) e g h k = absurd (k e)
+fed-same (turned n d) e g h k = g .refused-same n d refl
+
 fed-once : {s c q p s₁ s₂ c₁ c₂ p₁ p₂ : List ℕ} {m n : ℤ} {i j d e : ℕ} → FedWith s c q p m i d s₁ c₁ p₁ → FedWith s c q p n j e s₂ c₂ p₂
     → OneFed m n i j d e s₁ s₂ c₁ c₂ p₁ p₂
 fed-once f g =
@@ -188,8 +197,9 @@ fed-once f g =
       detail = f .detail-is ∙ ap (λ (r : Fed). detailIn (fedSays r)) (o .answer) ∙ sym (g .detail-is);
       carries = o .carries;
       replies = o .replies;
+      refused-same = fed-same (fedSays (f .answer)) (f .code-is) (o .stores);
       said = fedSays (f .answer);
-      said-is = f .code-is;
+      said-is = (f .code-is, f .replied-is, f .detail-is);
       stores = o .stores;
     }
 
@@ -207,13 +217,7 @@ chain-feeds {q = q} {s′ = s′} {p′ = p′} {σ₀ = σ₀} {rs = rs} {bs = 
     subst (λ (i : ℕ). Chain s′ σ₀ (rs ++ carriedOut (fedSays (f .answer)) (completedOf (f .fed .carry) q)) (bs ++ take i p′)) (sym (f .replied-is))
     (fed g b d (f .fed))
 
--- a refusal of a feed has a number
-abbrev Numbered· : Said → Type 0
-Numbered· (gave n) = Unit {0}
-Numbered· (halted n d) = Unit {0}
-Numbered· (turned n d) = 1 ≤ n
-
-numbered-fed : (r : Fed) → Numbered· (fedSays r)
+numbered-fed : (r : Fed) → Numbered (Unit {0}) (fedSays r)
 numbered-fed (Given n) = tt
 numbered-fed (Stopped n d) = tt
 numbered-fed (Away t) = some-number t
@@ -223,16 +227,24 @@ minus-negative zero h = absurd (omega arith)
 minus-negative (suc n) h = tt
 
 -- a code that is not below 0, or is 9's, goes on
-code-goes : (a : Said) {m : ℤ} → m ≡ codeOf a → (Negative m → m ≡ negℤ (pos 9)) → Numbered· a → NotTurned a
+code-goes : (a : Said) {m : ℤ} → m ≡ codeOf a → (Negative m → m ≡ nine) → Numbered (Unit {0}) a → NotTurned a
 code-goes (gave n) e g h = tt
 code-goes (halted n d) e g h = tt
 code-goes (turned n d) {m} e g h = sym (below-minus n) ∙ ap below (sym e ∙ g (subst Negative (sym e) (minus-negative n h)))
+
+fed-goes : {s c q p s′ c′ p′ : List ℕ} {m : ℤ} {n d : ℕ} (f : FedWith s c q p m n d s′ c′ p′) → (Negative m → m ≡ nine) → NotTurned (fedSays (f .answer))
+fed-goes f g = code-goes (fedSays (f .answer)) (f .code-is) g (numbered-fed (f .answer))
 
 streamed : {s c bs s′ c′ : List ℕ} {ps : List (List ℕ)} → Streamed s c ps bs s′ c′ → Stream s c ps bs s′ c′
 streamed over· = over
 streamed (feeds· {s = s} {c = c} {q = q} {p₁ = p₁} {bs = bs} {s′ = s′} {c′ = c′} {ps = ps} f g t) =
     subst (λ (i : ℕ). Stream s c (q ∷ ps) (take i p₁ ++ bs) s′ c′) (sym (f .replied-is))
-    (feeds (f .fed) (code-goes (fedSays (f .answer)) (f .code-is) g (numbered-fed (f .answer))) (streamed t))
+    (feeds (f .fed) (fed-goes f g) (streamed t))
+
+finish-says-all : {s c bs s′ c′ : List ℕ} {m : ℤ} {d : ℕ} (ps : List (List ℕ)) → CarryAs c opening → Streamed s c ps bs s′ c′ → FinishedWith c′ m d
+    → let a = verdictSays (ended (parse (glued ps) .end)) in (m ≡ codeOf a) × (d ≡ detailIn a)
+finish-says-all ps x t f =
+    let e = finish-says ps x (streamed t) (f .answer) (f .finished) in (f .code-is ∙ ap codeOf e, f .detail-is ∙ ap detailIn e)
 
 pub exported : Exported
 exported =
@@ -249,6 +261,9 @@ exported =
       fed-once = fed-once;
       finished-once = finished-once;
       chain-feeds = chain-feeds;
+      fed-intact = λ f g. fed-intact (f .answer) (f .fed) (fed-goes f g);
+      fed-fit = λ f g. fed-fit (f .answer) (f .fed) (fed-goes f g);
+      finish-says = finish-says-all;
       cut-anywhere = λ ps qs a b e. cut-anywhere ps qs (streamed a) (streamed b) e;
       as-one-call = λ ps x t c. as-one-call ps x (streamed t) (ran c);
     }

@@ -11,15 +11,15 @@ use Rattle.cells.specs.Cells.{Bytes}
 use Rattle.rules.specs.State.{State, emptyAt}
 use Rattle.rules.specs.Records.{Request}
 use Rattle.rules.specs.Bytes.{parse}
-use Rattle.rules.specs.Carry.{opening, CarryAs}
-use Rattle.rules.specs.Feed.{completedOf, glued}
+use Rattle.rules.specs.Carry.{opening, CarryAs, unfit, ReadsCarry}
+use Rattle.rules.specs.Feed.{completedOf, glued, ended}
 use Rattle.rules.specs.Sizing.{limitsFor}
 use Rattle.rules.specs.Verdict.{damaged}
 use Rattle.sizing.specs.declared.Settings.{Settings}
 use Rattle.s3_fifo.specs.declared.Creation.{Creation}
 use Rattle.s3_fifo.specs.declared.Ran.{Ran}
 use Rattle.s3_fifo.specs.Calls.{Said, createdSays, ranSays, ReadsAs, Created}
-use Rattle.s3_fifo.specs.Feeds.{fedSays, carriedOut}
+use Rattle.s3_fifo.specs.Feeds.{fedSays, repliesIn, carriedOut, verdictSays}
 use Rattle.s3_fifo.specs.Once.{Agrees}
 use Rattle.s3_fifo.specs.Streams.{OneStream, AsOneCall}
 use Rattle.s3_fifo.specs.Chains.{Chain}
@@ -40,6 +40,10 @@ pub record OneOutcome (m n : ℤ) (d e : ℕ) (s₁ s₂ p₁ p₂ : List ℕ) :
   pub said-is : m ≡ codeOf said
   pub stores : Agrees said s₁ s₂
 
+-- the code of a bad record, which a stream that stops gives, and one that has stopped
+abbrev pub nine : ℤ
+nine = negℤ (pos 9)
+
 -- two outcomes of one feed, which may have stopped the stream
 pub record OneFed (m n : ℤ) (i j d e : ℕ) (s₁ s₂ c₁ c₂ p₁ p₂ : List ℕ) : Type 0 where
   pub code : m ≡ n
@@ -47,15 +51,16 @@ pub record OneFed (m n : ℤ) (i j d e : ℕ) (s₁ s₂ c₁ c₂ p₁ p₂ : L
   pub detail : d ≡ e
   pub carries : c₁ ≡ c₂
   pub replies : p₁ ≡ p₂
+  pub refused-same : Negative m → (m ≡ nine → ⊥) → s₁ ≡ s₂
   pub said : Said
-  pub said-is : m ≡ codeOf said
+  pub said-is : (m ≡ codeOf said) × (i ≡ repliesIn said) × (d ≡ detailIn said)
   pub stores : Agrees said s₁ s₂
 
--- a stream as C sees it: feeds whose code is not below 0, or is that of a bad record
+-- a stream as C sees it: feeds whose code is not below 0, or is nine
 pub data Streamed : List ℕ → List ℕ → List (List ℕ) → List ℕ → List ℕ → List ℕ → Type 0 where
   over : {s c : List ℕ} → Streamed s c [] [] s c
   feeds : {s c q p s₁ c₁ p₁ bs s′ c′ : List ℕ} {ps : List (List ℕ)} {m : ℤ} {n d : ℕ} → FedWith s c q p m n d s₁ c₁ p₁
-      → (Negative m → m ≡ negℤ (pos 9)) → Streamed s₁ c₁ ps bs s′ c′ → Streamed s c (q ∷ ps) (take n p₁ ++ bs) s′ c′
+      → (Negative m → m ≡ nine) → Streamed s₁ c₁ ps bs s′ c′ → Streamed s c (q ∷ ps) (take n p₁ ++ bs) s′ c′
 
 pub record Exported : Type 0 where
   -- a call has one outcome
@@ -69,9 +74,12 @@ pub record Exported : Type 0 where
   pub created-apart : {g h : Settings} {s₁ s₂ t₁ t₂ : List ℕ} (r t : Creation) → Created g s₁ r s₂ → Created h t₁ t t₂
       → codeOf (createdSays r) ≡ codeOf (createdSays t) → r ≡ t
   pub called-apart : (r t : Ran) → codeOf (ranSays r) ≡ codeOf (ranSays t) → detailIn (ranSays r) ≡ detailIn (ranSays t) → r ≡ t
-  -- a fresh store never counts as damaged, nor does one that an accepted call left
+  -- a fresh store never counts as damaged, nor does one that an accepted call or a feed left; nor is the record that a feed left ever one that no
+  -- feed could have left
   pub created-intact : {capacity : ℕ} {small ghost : Float} {s s′ : List ℕ} → CreatedAs capacity small ghost s (pos 0) s′ → ReadsAs s′ damaged → ⊥
   pub called-intact : {s q p s′ p′ : List ℕ} {n d : ℕ} → CalledAs s q p (pos n) d s′ p′ → ReadsAs s′ damaged → ⊥
+  pub fed-intact : {s c q p s′ c′ p′ : List ℕ} {m : ℤ} {n d : ℕ} → FedWith s c q p m n d s′ c′ p′ → (Negative m → m ≡ nine) → ReadsAs s′ damaged → ⊥
+  pub fed-fit : {s c q p s′ c′ p′ : List ℕ} {m : ℤ} {n d : ℕ} → FedWith s c q p m n d s′ c′ p′ → (Negative m → m ≡ nine) → ReadsCarry c′ unfit → ⊥
   -- a creation starts a chain, an accepted call adds its requests and its reply bytes, a refused one leaves it as it is
   pub chain-starts : {capacity : ℕ} {small ghost : Float} {s s′ : List ℕ} → CreatedAs capacity small ghost s (pos 0) s′
       → Chain s′ (emptyAt (limitsFor capacity small ghost)) [] []
@@ -88,3 +96,5 @@ pub record Exported : Type 0 where
       → OneStream bs₁ bs₂ s₁ s₂ c₁ c₂
   pub as-one-call : {s c bs s′ c′ p s₁ p₁ : List ℕ} {n d : ℕ} (ps : List (List ℕ)) → CarryAs c opening → Streamed s c ps bs s′ c′
       → CalledAs s (glued ps) p (pos n) d s₁ p₁ → AsOneCall bs s′ c′ n s₁ p₁
+  pub finish-says : {s c bs s′ c′ : List ℕ} {m : ℤ} {d : ℕ} (ps : List (List ℕ)) → CarryAs c opening → Streamed s c ps bs s′ c′ → FinishedWith c′ m d
+      → let a = verdictSays (ended (parse (glued ps) .end)) in (m ≡ codeOf a) × (d ≡ detailIn a)

@@ -254,13 +254,13 @@ pub some-kept : (l : List ℕ) → 0 < length l → null l ≡ false
 some-kept [] h = absurd (omega arith)
 some-kept (x ∷ l) h = refl
 
-finish-left : (s : List ℕ) (e : End) → Ends s 0 e → finishOn (carries (leftBy 0 s e)) ≡ ended (leftBy 0 s e) e
+finish-left : (s : List ℕ) (e : End) → Ends s 0 e → finishOn (carries (leftBy 0 s e)) ≡ ended e
 finish-left s whole f = refl
 finish-left s (cutAt c) f =
     rw (some-kept (drop c s) (omega (arith, length-drop c s, cut-in s c (f .2)))) (ap (λ (n : ℕ). turnedAway (BadRecord n)) (omega arith))
 finish-left s (unknownAt c) f = ap (λ (n : ℕ). turnedAway (BadRecord n)) (omega arith)
 
 -- after all of a stream a finish says of it what one call's refusal 9 would
-pub finish-is : (σ : State) (s : List ℕ) → finishOn (carries (feedOn σ opening s .carry)) ≡ ended (feedOn σ opening s .carry) (parse s .end)
+pub finish-is : (σ : State) (s : List ℕ) → finishOn (carries (feedOn σ opening s .carry)) ≡ ended (parse s .end)
 unfolding feedOn
 finish-is σ s = finish-left s (parse s .end) (parse-ends s)

@@ -103,16 +103,16 @@ feed (reads σ) (carries c) piece room = unless (feedRows c (length piece) (comp
 abbrev pub finishRows : Carry → List RefusalRow
 finishRows c = record { when = c .stopped || not (null (c .kept)); why = BadRecord (c .offset) } ∷ []
 
--- nothing changes: what was carried stays
-abbrev pub finishOn : Carried → Verdict Carry
+-- nothing is left to say of a state, and nothing is replied
+abbrev pub finishOn : Carried → Verdict (Unit {0})
 finishOn unfit = turnedAway BadCarry
-finishOn (carries c) = unless (finishRows c) (done c [])
+finishOn (carries c) = unless (finishRows c) (done tt [])
 
--- how a stream ended, by how reading all of it ends: with what is left, or as one call's 9 would say
-abbrev pub ended : Carry → End → Verdict Carry
-ended c whole = done c []
-ended c (unknownAt i) = turnedAway (BadRecord i)
-ended c (cutAt i) = turnedAway (BadRecord i)
+-- how a stream ended, by how reading all of it ends: complete, or as one call's 9 would say
+abbrev pub ended : End → Verdict (Unit {0})
+ended whole = done tt []
+ended (unknownAt i) = turnedAway (BadRecord i)
+ended (cutAt i) = turnedAway (BadRecord i)
 
 -- ---- what feeds leave: a new stream's record, and whatever an accepted feed of bytes on a sound state leaves of one that was left
 

@@ -81,4 +81,4 @@ pub record FeedRows : Type 0 where
   pub long : map (λ (c : Carry). feed (reads none) (carries c) (replicate (suc mostRequestBytes) 0) 0) (goes (2 ^ 64 - 2) [] ∷ opening ∷ halts 18 ∷ [])
       ≡ refused 17 0 ∷ refused 8 0 ∷ refused 8 0 ∷ []
   pub finishes : map finishOn (unfit ∷ carries (halts 18) ∷ carries (goes 18 (88 ∷ [])) ∷ carries (goes 18 []) ∷ [])
-      ≡ refused 17 0 ∷ refused 9 18 ∷ refused 9 18 ∷ done (goes 18 []) [] ∷ []
+      ≡ refused 17 0 ∷ refused 9 18 ∷ refused 9 18 ∷ done tt [] ∷ []

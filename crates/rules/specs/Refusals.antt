@@ -1,4 +1,5 @@
--- The table of refusals (RULES 8.1): the number and the detail for each case of the code's enum, and when each applies.
+-- The table of refusals (RULES 8.1): the number and the detail for each case of the code's enum, and when each applies to a creation and a run. The rows of a
+-- feed and of a finish stand in Feed.antt.
 -- Rows 1 to 5 are sizing's (`sizingUpTo`); 6 and 7 of a call are told by what the store reads as (`call`), 7 where it holds no state.
 -- Assumes nothing.
 use Prim.Native.Nat.{ℕ}

@@ -7,7 +7,7 @@ use Prim.Native.Nat.{ℕ, _≤_}
 use native.Mathlib.Omega.{arith}
 use lib.ListN.{length, drop, take-append-drop}
 use Rattle.rules.specs.State.{State}
-use Rattle.rules.specs.Bytes.{End, parse, encodeAll}
+use Rattle.rules.specs.Bytes.{End, walk, parseFrom, parse, encodeAll}
 use Rattle.rules.specs.Refusals.{storeBytes}
 use Rattle.rules.specs.Verdict.{reads}
 use Rattle.rules.specs.Carry.{Carry, opening, carryBytes, carryWritten, CarryAs, Carried, carries, ReadsCarry}
@@ -98,12 +98,18 @@ cut-anywhere [] (q ∷ qs) a b e = let y = set-off b in any-cutting-on (y .holds
 -- ---- against one call
 
 -- a finish says how the whole stream ended
-pub finish-says : {s c bs s′ c′ : List ℕ} (ps : List (List ℕ)) {σ : State} → Holds s σ → storeBytes ≤ length s → CarryAs c opening → Stream s c ps bs s′ c′
-    → (r : Finish) → FinishAs c′ r → finishSays r ≡ verdictSays (ended (feedOn σ opening (glued ps) .carry) (parse (glued ps) .end))
-finish-says {c′ = c′} ps {σ} h b x t r f =
+says-on : {s c bs s′ c′ : List ℕ} (ps : List (List ℕ)) {σ : State} → Holds s σ → storeBytes ≤ length s → CarryAs c opening → Stream s c ps bs s′ c′
+    → (r : Finish) → FinishAs c′ r → finishSays r ≡ verdictSays (ended (parse (glued ps) .end))
+says-on {c′ = c′} ps {σ} h b x t r f =
     let k : Carry = feedOn σ opening (glued ps) .carry in
     let y : CarryAs c′ k = subst (λ (w : Flow). CarryAs c′ (w .carry)) (feed-all σ opening (x .could) ps) (stream-gives h b x t .next) in
     f .says ∙ ap (λ (d : Carried). verdictSays (finishOn d)) (carried-once c′ (f .carry) (carries k) (f .carry-is) y) ∙ ap verdictSays (finish-is σ (glued ps))
+
+pub finish-says : {s c bs s′ c′ : List ℕ} (ps : List (List ℕ)) → CarryAs c opening → Stream s c ps bs s′ c′ → (r : Finish) → FinishAs c′ r
+    → finishSays r ≡ verdictSays (ended (parse (glued ps) .end))
+unfolding parse parseFrom walk
+finish-says {c = c} [] x over r f = f .says ∙ ap (λ (d : Carried). verdictSays (finishOn d)) (carried-once c (f .carry) (carries opening) (f .carry-is) x)
+finish-says (p ∷ ps) x t r f = let y = set-off t in says-on (p ∷ ps) (y .holds) (y .long) x t r f
 
 pub as-one-call : {s c bs s′ c′ p s₁ p₁ : List ℕ} {n : ℕ} (ps : List (List ℕ)) → CarryAs c opening → Stream s c ps bs s′ c′
     → Called s (glued ps) p (Done n) s₁ p₁ → AsOneCall bs s′ c′ n s₁ p₁
@@ -117,5 +123,5 @@ as-one-call {s} {c} {bs} {s′} {c′} {p} {s₁} {p₁} {n} ps x t d =
       replies = g .replies ∙ sym (y .served .told);
       stores = alike-holds (y .served .holds) (g .holds) (y .same-length ∙ sym (g .same-length));
       complete = λ r f. finish-says-once r Complete
-          (finish-says ps (y .held) (y .long) x t r f ∙ ap (λ (e : End). verdictSays (ended (feedOn σ opening (glued ps) .carry) e)) (y .ended));
+          (says-on ps (y .held) (y .long) x t r f ∙ ap (λ (e : End). verdictSays (ended e)) (y .ended));
     }

@@ -57,9 +57,9 @@ pub record FedAs (s c q p : List ℕ) (r : Fed) (s′ c′ p′ : List ℕ) : Ty
   pub untouched : AllPeeks (completedOf carry q) → s′ ≡ s
 
 -- what a finish's verdict says
-abbrev pub verdictSays : Verdict Carry → Said
+abbrev pub verdictSays : Verdict (Unit {0}) → Said
 verdictSays (refused n d) = turned n d
-verdictSays (done c bs) = gave (length bs)
+verdictSays (done t bs) = gave (length bs)
 
 -- a finish: the carried record, which it only reads, and the answer
 pub record FinishAs (c : List ℕ) (r : Finish) : Type 0 where

@@ -6,17 +6,14 @@
 use mathlib.Core.Path.{_≡_}
 use mathlib.Core.Bool.{true}
 use mathlib.Core.List.{List, _∷_, _++_}
-use Prim.Native.Nat.{ℕ, _≤_}
-use lib.ListN.{length}
+use Prim.Native.Nat.{ℕ}
 use Rattle.cells.specs.Cells.{Bytes}
 use Rattle.rules.specs.State.{State}
 use Rattle.rules.specs.Records.{Request, IN}
 use Rattle.rules.specs.Bytes.{parse}
-use Rattle.rules.specs.Refusals.{storeBytes}
 use Rattle.rules.specs.Verdict.{damaged}
 use Rattle.rules.specs.Carry.{Carry, opening, couldLeave, CarryAs, unfit, ReadsCarry}
-use Rattle.rules.specs.Feed.{feedOn, glued, ended, Reached}
-use Rattle.store.specs.Holds.{Holds}
+use Rattle.rules.specs.Feed.{glued, ended, Reached}
 use Rattle.sizing.specs.declared.Settings.{Settings}
 use Rattle.s3_fifo.specs.declared.Creation.{Creation}
 use Rattle.s3_fifo.specs.declared.Creation.the-variants.{Made}
@@ -36,7 +33,8 @@ pub record Promises : Type 0 where
   pub called-once : {s q p s₁ s₂ p₁ p₂ : List ℕ} (r t : Ran) → Called s q p r s₁ p₁ → Called s q p t s₂ p₂ → OneCall r t s₁ s₂ p₁ p₂
   pub fed-once : {s c q p s₁ s₂ c₁ c₂ p₁ p₂ : List ℕ} (r t : Fed) → FedAs s c q p r s₁ c₁ p₁ → FedAs s c q p t s₂ c₂ p₂ → OneFeed r t s₁ s₂ c₁ c₂ p₁ p₂
   pub finished-once : {c : List ℕ} (r t : Finish) → FinishAs c r → FinishAs c t → r ≡ t
-  -- a fresh store never counts as damaged, nor does one that an accepted call or a feed left; nor is the record that a feed left ever refused
+  -- a fresh store never counts as damaged, nor does one that an accepted call or a feed left; nor is the record that a feed left ever
+  -- one that no feed could have left
   pub created-intact : {settings : Settings} {s s′ : List ℕ} → Created settings s Made s′ → ReadsAs s′ damaged → ⊥
   pub called-intact : {s q p s′ p′ : List ℕ} {n : ℕ} → Called s q p (Done n) s′ p′ → ReadsAs s′ damaged → ⊥
   pub fed-intact : {s c q p s′ c′ p′ : List ℕ} (r : Fed) → FedAs s c q p r s′ c′ p′ → NotTurned (fedSays r) → ReadsAs s′ damaged → ⊥
@@ -50,8 +48,8 @@ pub record Promises : Type 0 where
       → OneStream bs₁ bs₂ s₁ s₂ c₁ c₂
   pub as-one-call : {s c bs s′ c′ p s₁ p₁ : List ℕ} {n : ℕ} (ps : List (List ℕ)) → CarryAs c opening → Stream s c ps bs s′ c′
       → Called s (glued ps) p (Done n) s₁ p₁ → AsOneCall bs s′ c′ n s₁ p₁
-  pub finish-says : {s c bs s′ c′ : List ℕ} (ps : List (List ℕ)) {σ : State} → Holds s σ → storeBytes ≤ length s → CarryAs c opening → Stream s c ps bs s′ c′
-      → (r : Finish) → FinishAs c′ r → finishSays r ≡ verdictSays (ended (feedOn σ opening (glued ps) .carry) (parse (glued ps) .end))
+  pub finish-says : {s c bs s′ c′ : List ℕ} (ps : List (List ℕ)) → CarryAs c opening → Stream s c ps bs s′ c′
+      → (r : Finish) → FinishAs c′ r → finishSays r ≡ verdictSays (ended (parse (glued ps) .end))
   -- demand 3, over any chain of calls and feeds: the ledger and one place for each key; and the full insert, wherever in the chain it comes
   pub chain-keeps : {s : List ℕ} {σ₀ : State} {rs : List Request} {bs : List ℕ} → Chain s σ₀ rs bs → Kept s σ₀ rs bs
   pub full-within : (a : List Request) (k v : ℕ) (b : List Request) {s bs : List ℕ} {σ₀ : State} {rs : List Request} → Chain s σ₀ rs bs

@@ -114,14 +114,14 @@ pub struct Fed {
     /// How many reply bytes were written. They count where the feed is refused too: with a new
     /// [`BadRecord`](Refusal::BadRecord) they answer the requests before the unknown mark.
     pub replied: usize,
-    /// Why it was turned away, if it was.
+    /// The refusal that it gave, if it gave one.
     pub refused: Option<Refusal>,
 }
 
 /// The reply room that always suffices for a piece of so many bytes.
 #[must_use]
 pub const fn feed_room(piece_bytes: usize) -> usize {
-    MOST_REPLY_BYTES_TO_ONE * (piece_bytes + MOST_KEPT)
+    piece_bytes.saturating_add(MOST_KEPT).saturating_mul(MOST_REPLY_BYTES_TO_ONE)
 }
 
 /// Takes the next piece of a stream: the requests that it completes are carried out, and a record that is cut is kept in the

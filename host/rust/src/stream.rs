@@ -67,8 +67,8 @@ pub enum StreamError {
         /// Where the record starts, counted from the stream's first byte.
         offset: u64,
     },
-    /// The piece was turned away, and nothing of it consumed: the store is too short or damaged, or what is carried is none
-    /// that a feed leaves.
+    /// A feed was turned away, and nothing of it consumed (of a piece longer than one feed takes, the feeds before it were): the
+    /// store is too short or damaged, what is carried is none that a feed leaves, or the stream would end past offset 2^64-1.
     Refused(Refusal),
     /// Reading failed. What was read before is fed, and the stream can go on.
     Read(io::Error),
@@ -122,7 +122,7 @@ impl<'c, S: AsMut<[u8]>> Stream<'c, S> {
     }
 
     /// Takes the next piece, of any length, and hands out the answers one by one, those before an error too. A piece longer
-    /// than one feed takes is cut into several; [`position`](Stream::position) says how much of it a refusal has left.
+    /// than one feed takes is cut into several; how far [`position`](Stream::position) went says how much of it was taken.
     pub fn feed_each(&mut self, piece: &[u8], mut each: impl FnMut(Answered)) -> Result<(), StreamError> {
         let mut rest = piece;
         loop {
@@ -142,8 +142,12 @@ impl<'c, S: AsMut<[u8]>> Stream<'c, S> {
     }
 
     /// Reads to the end, and hands out the answers one by one, those before an error too. What a read gives, up to 32,768
-    /// bytes, is one feed: nothing waits for more to come. The end must be that of a record.
+    /// bytes, is one feed: nothing waits for more to come. The end must be that of a record. Where a feed is turned away, or the
+    /// stream stops, what the last read gave is not handed back; from a stream that has stopped before nothing is read.
     pub fn pour_each(&mut self, mut reader: impl Read, mut each: impl FnMut(Answered)) -> Result<(), StreamError> {
+        if self.has_stopped() {
+            return self.finish();
+        }
         let mut buffer = vec![0; MOST_REQUEST_BYTES];
         loop {
             match reader.read(&mut buffer) {
@@ -157,11 +161,14 @@ impl<'c, S: AsMut<[u8]>> Stream<'c, S> {
 
     /// Whether the stream may end here. Nothing changes, and more may come after it.
     pub fn finish(&self) -> Result<(), StreamError> {
-        let stopped = self.carry[9] == 1;
         call::finish(&self.carry).map_err(|refusal| match refusal {
-            Refusal::BadRecord { offset } if !stopped => StreamError::CutShort { offset },
+            Refusal::BadRecord { offset } if !self.has_stopped() => StreamError::CutShort { offset },
             refusal => StreamError::of_feed(refusal),
         })
+    }
+
+    fn has_stopped(&self) -> bool {
+        self.carry[9] == 1
     }
 
     /// One feed. It is proved that the replies answer the records completed one by one, so they end with the last of those.

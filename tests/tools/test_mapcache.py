@@ -192,7 +192,17 @@ class Explain(unittest.TestCase):
         for refusal in sorted(others):
             status, _, said = mapcache("explain", str(refusal))
             self.assertEqual(status, 1)
-            self.assertIn(f"there is no refusal {refusal}: they are numbered 1 to 10, 17", said)
+            self.assertIn(f"there is no refusal {refusal}: they are numbered {self.said_in_words()}", said)
+
+    def said_in_words(self):
+        """The numbers, those in a row by the first and the last of them."""
+        rows = []
+        for number in self.numbers:
+            if rows and rows[-1][-1] == number - 1:
+                rows[-1].append(number)
+            else:
+                rows.append([number])
+        return ", ".join(f"{row[0]} to {row[-1]}" if len(row) > 1 else str(row[0]) for row in rows)
 
 
 class Show(unittest.TestCase):

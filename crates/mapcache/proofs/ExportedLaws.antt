@@ -35,7 +35,7 @@ use Rattle.s3_fifo.specs.Once.{Agrees}
 use Rattle.s3_fifo.specs.Chains.{Chain, start, accepted, refused, fed}
 use Rattle.s3_fifo.proofs.ChainLaws.{created-intact, called-intact}
 use Rattle.s3_fifo.proofs.StreamLaws.{cut-anywhere, as-one-call, finish-says}
-use Rattle.s3_fifo.proofs.FedLaws.{fed-intact, fed-fit}
+use Rattle.s3_fifo.proofs.WentLaws.{fed-intact, fed-fit}
 use Rattle.s3_fifo.proofs.OnceLaws as once
 use Rattle.mapcache.specs.Codes.{codeOf, detailIn, CreatedAs, CalledAs, FedWith, FinishedWith}
 use Rattle.mapcache.specs.Exported.{Negative, OneOutcome, nine, OneFed, Streamed, over as over·, feeds as feeds·, Exported}

@@ -44,7 +44,7 @@ use Rattle.s3_fifo.specs.Streams.{NotTurned}
 use Rattle.s3_fifo.specs.Calls.{Said, gave, halted, turned, ranSays, ReadsAs, Follows, Created, Called}
 use Rattle.s3_fifo.specs.Chains.{limitsMade, Chain, start, accepted, refused, fed, Grown, Kept, FullWithin}
 use Rattle.s3_fifo.proofs.OnceLaws.{gave-not, goes-not, reads-once}
-use Rattle.s3_fifo.proofs.FedLaws.{goes-on, goes-lent}
+use Rattle.s3_fifo.proofs.WentLaws.{goes-on, goes-lent}
 
 -- ---- from an answer to the verdict's last word
 

@@ -3,7 +3,7 @@
 use Rattle.rules.proofs.ReachLaws.{could-reach, reach-could}
 use Rattle.s3_fifo.specs.Promises.{Promises}
 use Rattle.s3_fifo.proofs.OnceLaws.{created-once, called-once, fed-once, finished-once}
-use Rattle.s3_fifo.proofs.FedLaws.{fed-intact, fed-fit}
+use Rattle.s3_fifo.proofs.WentLaws.{fed-intact, fed-fit}
 use Rattle.s3_fifo.proofs.StreamLaws.{cut-anywhere, as-one-call, finish-says}
 use Rattle.s3_fifo.proofs.ChainLaws.{created-intact, called-intact, chain-keeps, full-within}
 

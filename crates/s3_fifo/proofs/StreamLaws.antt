@@ -24,7 +24,7 @@ use Rattle.s3_fifo.specs.Calls.{ReadsAs, Called}
 use Rattle.s3_fifo.specs.Feeds.{finishSays, verdictSays, FinishAs}
 use Rattle.s3_fifo.specs.Streams.{Stream, over, feeds, OneStream, AsOneCall}
 use Rattle.s3_fifo.proofs.OnceLaws.{alike-self, alike-holds, finish-says-once}
-use Rattle.s3_fifo.proofs.FedLaws.{goes-on, goes-lent}
+use Rattle.s3_fifo.proofs.WentLaws.{goes-on, goes-lent}
 use Rattle.s3_fifo.proofs.ChainLaws.{whole-served}
 
 -- ---- what a stream gives and leaves

@@ -1,11 +1,13 @@
-//! A long stream of requests, cut at random, beside the same requests in whole calls: the answers are the same, and so are
-//! the pairs that the two caches hold at the end. Status 1 where they differ. `make pieces` runs it.
+//! A long stream of requests from a pipe that cuts at random, beside the same requests in whole calls: the answers are the
+//! same, and so are the pairs that the two caches hold at the end. Status 1 where they differ. `make pieces` runs it.
 
 use mapcache::{
     Answer, Answered, Cache, GuestBlock, Inserted, Left, MOST_REQUEST_BYTES, Pair, PhysicalBlock, Request, Settings,
     Stream, in_calls,
 };
+use std::collections::HashSet;
 use std::error::Error;
+use std::io::{self, Read};
 use std::process::ExitCode;
 
 const SEED: u64 = 88_172_645_463_325_252;
@@ -21,15 +23,16 @@ fn main() -> Result<ExitCode> {
     let requests: Vec<Request> = (0..REQUESTS).map(|_| seed.request()).collect();
     let mut bytes = Vec::new();
     requests.iter().for_each(|request| request.write(&mut bytes));
-    let pieces = seed.cut(&bytes);
+    let mut pipe = Pipe { bytes: &bytes, seed, ends: vec![0] };
 
     let mut fed = Cache::new(Settings::with_capacity(CAPACITY))?;
-    let (in_pieces, cut) = feed_all(&mut fed, &pieces)?;
+    let mut in_pieces = Vec::new();
+    Stream::new(&mut fed).pour_each(&mut pipe, |answered| in_pieces.push(answered))?;
     let mut called = Cache::new(Settings::with_capacity(CAPACITY))?;
     let (in_whole_calls, calls) = run_all(&mut called, &requests)?;
 
     println!("{} requests, {} bytes, for a cache of {CAPACITY} pairs", grouped(REQUESTS), grouped(bytes.len()));
-    say_pieces(&pieces, cut);
+    say_pieces(&pipe.ends, &requests);
     println!("  in whole calls: {} calls of up to {} bytes", grouped(calls), grouped(MOST_REQUEST_BYTES));
     println!("The first answers of the stream:");
     for Answered { request, answer } in &in_pieces[..SHOWN] {
@@ -48,18 +51,6 @@ fn main() -> Result<ExitCode> {
     Ok(ExitCode::FAILURE)
 }
 
-/// Each piece as it comes: the answers, and after how many pieces the stream could not have ended.
-fn feed_all(cache: &mut Cache<Box<[u8]>>, pieces: &[&[u8]]) -> Result<(Vec<Answered>, usize)> {
-    let mut stream = Stream::new(cache);
-    let (mut answers, mut cut) = (Vec::new(), 0);
-    for piece in pieces {
-        stream.feed_each(piece, |answered| answers.push(answered))?;
-        cut += usize::from(stream.finish().is_err());
-    }
-    stream.finish()?;
-    Ok((answers, cut))
-}
-
 /// The answers, and how many calls it took.
 fn run_all(cache: &mut Cache<Box<[u8]>>, requests: &[Request]) -> Result<(Vec<Answer>, usize)> {
     let (mut answers, mut calls) = (Vec::new(), 0);
@@ -70,11 +61,19 @@ fn run_all(cache: &mut Cache<Box<[u8]>>, requests: &[Request]) -> Result<(Vec<An
     Ok((answers, calls))
 }
 
-fn say_pieces(pieces: &[&[u8]], cut: usize) {
-    let lengths = || pieces.iter().map(|piece| piece.len());
+/// The pieces by their ends, the first of which is the stream's start; those that end where no record does are cut.
+fn say_pieces(ends: &[usize], requests: &[Request]) {
+    let lengths = || ends.windows(2).map(|pair| pair[1] - pair[0]);
     let (shortest, longest) = (lengths().min().unwrap_or(0), lengths().max().unwrap_or(0));
-    let (count, shortest, longest, cut) = (grouped(pieces.len()), grouped(shortest), grouped(longest), grouped(cut));
+    let records: HashSet<usize> = requests.iter().scan(0, |end, request| Some(add(end, request.bytes()))).collect();
+    let cut = ends[1..].iter().filter(|end| !records.contains(end)).count();
+    let (count, shortest, longest, cut) = (grouped(ends.len() - 1), grouped(shortest), grouped(longest), grouped(cut));
     println!("  in pieces: {count} feeds of {shortest} to {longest} bytes, of which {cut} end within a record");
+}
+
+fn add(end: &mut usize, bytes: usize) -> usize {
+    *end += bytes;
+    *end
 }
 
 /// The first request that is not the same, or is not answered alike.
@@ -144,16 +143,28 @@ impl Seed {
         }
     }
 
-    /// Pieces of 1 byte up to as many as a feed takes, short ones as often as long ones.
-    fn cut<'a>(&mut self, bytes: &'a [u8]) -> Vec<&'a [u8]> {
-        let (mut pieces, mut rest) = (Vec::new(), bytes);
-        while !rest.is_empty() {
-            let most = 1 << self.below(1 + u64::from(MOST_REQUEST_BYTES.ilog2()));
-            let length = 1 + self.below(most) as usize;
-            let (piece, behind) = rest.split_at(length.min(rest.len()));
-            pieces.push(piece);
-            rest = behind;
+    /// From 1 byte up to as many as a feed takes, short lengths as often as long ones.
+    fn length(&mut self) -> usize {
+        let most = 1 << self.below(1 + u64::from(MOST_REQUEST_BYTES.ilog2()));
+        1 + self.below(most) as usize
+    }
+}
+
+/// Gives its bytes in pieces of random lengths, and knows where each ended.
+struct Pipe<'a> {
+    bytes: &'a [u8],
+    seed: Seed,
+    ends: Vec<usize>,
+}
+
+impl Read for Pipe<'_> {
+    fn read(&mut self, buffer: &mut [u8]) -> io::Result<usize> {
+        let start = *self.ends.last().unwrap_or(&0);
+        let length = self.seed.length().min(buffer.len()).min(self.bytes.len() - start);
+        buffer[..length].copy_from_slice(&self.bytes[start..start + length]);
+        if length > 0 {
+            self.ends.push(start + length);
         }
-        pieces
+        Ok(length)
     }
 }

@@ -31,8 +31,8 @@ unsafe extern "C" {
     ///
     /// No pointer is null, also where its length is 0. `store_len` bytes from `store` on and `replies_len` from `replies`
     /// on may be read and written, `requests_len` from `requests` on may be read, and `detail` is aligned as a `u64` is
-    /// and may be written as one. None of the four overlaps another, and no other thread uses them during the call. Whatever the bytes hold is
-    /// judged, not assumed.
+    /// and may be written as one. None of the four overlaps another, and no other thread uses them during the call. Whatever
+    /// the bytes hold is judged, not assumed.
     pub unsafe fn mapcache_run(
         store: *mut u8,
         store_len: usize,

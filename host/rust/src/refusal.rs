@@ -131,6 +131,6 @@ mod tests {
     #[test]
     #[should_panic = "it refuses with"]
     fn a_number_of_another_version_is_not_taken_for_one_of_ours() {
-        let _ = Refusal::of(11, 0);
+        let _ = Refusal::of(u64::from(u8::MAX), 0);
     }
 }

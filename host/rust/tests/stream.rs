@@ -193,6 +193,25 @@ fn a_damaged_store_and_a_bad_carry_are_refused() {
 }
 
 #[test]
+fn a_refusal_in_the_middle_of_a_long_piece_says_how_much_was_taken() {
+    let mut lent = cache(1);
+    let start = u64::MAX - 1 - MOST_REQUEST_BYTES as u64;
+    let mut stream = Stream::resume(&mut lent, carry(start, b"", false));
+    let broken = stream.feed(&b"CL".repeat(20_000)).unwrap_err();
+    assert_eq!((broken.answers.len(), broken.why.refusal()), (MOST_REQUEST_BYTES / 2, Some(Refusal::BadCarry)));
+    assert_eq!(stream.position() - start, MOST_REQUEST_BYTES as u64);
+}
+
+#[test]
+fn nothing_is_read_for_a_stream_that_has_stopped() {
+    let mut lent = cache(1);
+    let mut stream = Stream::resume(&mut lent, carry(18, b"", true));
+    let mut pipe: &[u8] = b"CL";
+    assert_eq!(unknown_at(&stream.pour(&mut pipe).unwrap_err().why), Some(18));
+    assert_eq!(pipe, b"CL");
+}
+
+#[test]
 fn bytes_are_fed_as_they_are() {
     let (mut store, mut carried) = (cache(1).into_store(), [0; CARRY_BYTES + 3]);
     let piece = [&bytes(&[insert(7, 70)])[..], b"XX"].concat();

@@ -31,7 +31,7 @@ use Rattle.carry.proofs.CarriesLaws as lent
 use Rattle.store.specs.Holds.{Held}
 use Rattle.runs.specs.declared.Fed.{Fed}
 use Rattle.runs.specs.declared.Fed.the-variants.{Done, Stopped, Refused}
-use Rattle.runs.specs.Runs.{Runs, FedRan, FedOn}
+use Rattle.runs.specs.Runs.{Runs, WentOn, FedRan, FedOn}
 use Rattle.runs.proofs.RunLaws.{splice-none, runs-room, runs-runs}
 
 -- ---- what stands in front of a piece, and the piece from an offset on
@@ -168,6 +168,12 @@ module _ (head piece : List ℕ) (from : ℕ) {v w : Survey} (g : v ≡ surveyed
   ran : {k l : Carry} → k ≡ l → CarryPut c k c′ → FedRan z s s₂ c c′ p p₂ (parse head .requests ++ parseFrom piece from .requests) l n
   ran {k} {l} q u = record { runs = a; room = omega (arith, rooms head piece from g h); put = subst (λ (x : Carry). CarryPut c x c′) q u .is }
 
+  goes : {o : ℕ} {l : List ℕ} {k : Carry} {r : Fed} → record { offset = o; kept = l; stopped = false } ≡ k
+      → WentOn c (record { offset = o; kept = l; stopped = false }) c′ n r → FedOn z s s₂ c c′ p p₂ (parse head .requests ++ parseFrom piece from .requests) k r
+  goes {k = k} q u =
+      subst (FedOn z s s₂ c c′ p p₂ (parse head .requests ++ parseFrom piece from .requests) k) (sym (u .answer))
+      (record { fed = (ap (λ (x : Carry). x .stopped) (sym q), ran q (u .put)) })
+
   pub whole-stopped : t ≡ Strange → CarryPut c (record { offset = base + w .at; kept = drop (length piece) piece; stopped = true }) c′
       → FedOn z s s₂ c c′ p p₂ (parse head .requests ++ parseFrom piece from .requests) (leftBy base piece (parseFrom piece from .end))
       (Stopped n (base + w .at))
@@ -175,13 +181,13 @@ module _ (head piece : List ℕ) (from : ℕ) {v w : Survey} (g : v ≡ surveyed
       let q = left-strange piece from h is k base in
       record { fed = (ap (λ (x : Carry). x .stopped) (sym q), ap (λ (x : Carry). x .offset) (sym q), ran q u) }
 
-  pub whole-cut : t ≡ Short → CarryPut c (record { offset = base + w .at; kept = drop (w .at) piece; stopped = false }) c′
-      → FedOn z s s₂ c c′ p p₂ (parse head .requests ++ parseFrom piece from .requests) (leftBy base piece (parseFrom piece from .end)) (Done n)
-  whole-cut k u = let q = left-cut piece from h is k base in record { fed = (ap (λ (x : Carry). x .stopped) (sym q), ran q u) }
+  pub whole-cut : t ≡ Short → {r : Fed} → WentOn c (record { offset = base + w .at; kept = drop (w .at) piece; stopped = false }) c′ n r
+      → FedOn z s s₂ c c′ p p₂ (parse head .requests ++ parseFrom piece from .requests) (leftBy base piece (parseFrom piece from .end)) r
+  whole-cut k u = goes (left-cut piece from h is k base) u
 
-  pub whole-done : t ≡ All → CarryPut c (record { offset = base + w .at; kept = drop (w .at) piece; stopped = false }) c′
-      → FedOn z s s₂ c c′ p p₂ (parse head .requests ++ parseFrom piece from .requests) (leftBy base piece (parseFrom piece from .end)) (Done n)
-  whole-done k u = let q = left-whole piece from h is k base in record { fed = (ap (λ (x : Carry). x .stopped) (sym q), ran q u) }
+  pub whole-done : t ≡ All → {r : Fed} → WentOn c (record { offset = base + w .at; kept = drop (w .at) piece; stopped = false }) c′ n r
+      → FedOn z s s₂ c c′ p p₂ (parse head .requests ++ parseFrom piece from .requests) (leftBy base piece (parseFrom piece from .end)) r
+  whole-done k u = goes (left-whole piece from h is k base) u
 
 -- ---- the answers of `feed_going`
 

@@ -12,6 +12,7 @@ use Rattle.rules.specs.Requests.{run}
 use Rattle.rules.specs.Bytes.{roomFor, encodeAll}
 use Rattle.rules.specs.Carry.{Carry, carryBytes, carryWritten}
 use Rattle.wire.specs.CarriedOut.{CarriedOut}
+use Rattle.carry.specs.Carries.{CarryPut}
 use Rattle.store.specs.Holds.{stateIn, Held}
 use Rattle.rules.specs.declared.Turned.the-variants.{NoRoom}
 use Rattle.runs.specs.declared.Fed.{Fed}
@@ -26,6 +27,11 @@ pub record Runs (z : Shape) (s s′ : List ℕ) (rs : List Request) (p p′ : Li
   pub same : length s′ ≡ length s
   pub untouched : AllPeeks rs → s′ ≡ s
   pub sized : length (encodeAll (run (stateIn z s) rs .replies)) ≤ roomFor rs
+
+-- the record k stands in front of c′, and the answer is so many reply bytes
+pub record WentOn (c : List ℕ) (k : Carry) (c′ : List ℕ) (n : ℕ) (r : Fed) : Type 0 where
+  pub put : CarryPut c k c′
+  pub answer : r ≡ Given n
 
 -- the requests rs were carried out, with n reply bytes in front of p′, and k stands in front of c′
 pub record FedRan (z : Shape) (s s′ c c′ p p′ : List ℕ) (rs : List Request) (k : Carry) (n : ℕ) : Type 0 where

@@ -1,10 +1,11 @@
 // Requests carried out one after the other (RULES 7.2, RULES 7.3) on a store that holds a state: those of a run of bytes, and those that a piece of a stream
 // completes, with the record that was cut before it. What is asked of the bytes and of the reply room is asked by the calls above.
+ghost use mathlib.Core.Bool.{false};
 ghost use mathlib.Core.List.{_++_};
 ghost use Prim.Native.Nat.{_+_, _≤_};
-ghost use lib.ListN.{length};
+ghost use lib.ListN.{length, drop};
 ghost use Rattle.rules.specs.Bytes.{longestRecord, encodeAll, parseFrom, parse};
-ghost use Rattle.rules.specs.Carry.{lastOffset, carryBytes, leftBy};
+ghost use Rattle.rules.specs.Carry.{lastOffset, carryBytes, keptRoom, leftBy};
 ghost use Rattle.rules.specs.Refusals.{mostRequestBytes};
 ghost use Rattle.wire.specs.Wire.{Wrote};
 ghost use Rattle.wire.specs.CarriedOut.{HasRoom};
@@ -12,7 +13,7 @@ ghost use Rattle.carry.specs.Carries.{keptIn, Brings};
 ghost use Rattle.evict.specs.Evicts.{pushedOf};
 ghost use Rattle.requests.specs.Answers.{spokenOf};
 ghost use Rattle.store.specs.Holds.{Held};
-ghost use Rattle.runs.specs.Runs.{Runs, FedOn};
+ghost use Rattle.runs.specs.Runs.{Runs, WentOn, FedOn};
 use carry::Brought;
 use carry::Head;
 use evict::Pushed;
@@ -105,6 +106,16 @@ fn run_both(
     run_from(store, z, piece, from, replies, middle)
 }
 
+// Writes the record of a stream that goes on, with what the piece has from `at` on, and answers the reply bytes.
+fn go_on(carry: &mut [u8], offset: u64, piece: &[u8], at: usize, out: usize) -> Fed
+    requires { ⌜ (carryBytes ≤ length (now carry)) × (at ≤ length (now piece)) × (length (now piece) ≤ at + keptRoom) ⌝ }
+    ensures { λ r. ⌜ WentOn (now (carry .entry)) (record { offset = offset; kept = drop at (now (piece .entry)); stopped = false })
+        (now (carry .exit)) out r ⌝ }
+{
+    carry::put(carry, offset, false, piece, at);
+    Fed::Done(out)
+}
+
 // A feed of what stands in front of a piece, a whole record or nothing, and of the piece from `from` on. The piece's first byte has the offset `base`.
 fn feed_whole(
     store: &mut [u8],
@@ -136,14 +147,8 @@ fn feed_whole(
             carry::put(carry, end, true, piece, piece.len());
             Fed::Stopped(out, end)
         }
-        Stop::Cut => {
-            carry::put(carry, end, false, piece, rest.at);
-            Fed::Done(out)
-        }
-        Stop::Whole => {
-            carry::put(carry, end, false, piece, rest.at);
-            Fed::Done(out)
-        }
+        Stop::Cut => go_on(carry, end, piece, rest.at, out),
+        Stop::Whole => go_on(carry, end, piece, rest.at, out),
     }
 }
 

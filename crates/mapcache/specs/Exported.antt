@@ -5,7 +5,7 @@ use mathlib.Core.Path.{_≡_}
 use mathlib.Core.List.{List, [], _∷_, _++_}
 use Prim.Native.Nat.{ℕ}
 use lib.ListN.{take}
-use lib.IntN.{ℤ, pos, negsuc, negℤ}
+use lib.IntN.{ℤ, pos, negsuc}
 use lib.Ieee.{Float}
 use Rattle.cells.specs.Cells.{Bytes}
 use Rattle.rules.specs.State.{State, emptyAt}
@@ -18,7 +18,7 @@ use Rattle.rules.specs.Verdict.{damaged}
 use Rattle.sizing.specs.declared.Settings.{Settings}
 use Rattle.s3_fifo.specs.declared.Creation.{Creation}
 use Rattle.s3_fifo.specs.declared.Ran.{Ran}
-use Rattle.s3_fifo.specs.Calls.{Said, createdSays, ranSays, ReadsAs, Created}
+use Rattle.s3_fifo.specs.Calls.{Said, halted, createdSays, ranSays, ReadsAs, Created}
 use Rattle.s3_fifo.specs.Feeds.{fedSays, repliesIn, carriedOut, verdictSays}
 use Rattle.s3_fifo.specs.Once.{Agrees}
 use Rattle.s3_fifo.specs.Streams.{OneStream, AsOneCall}
@@ -42,7 +42,7 @@ pub record OneOutcome (m n : ℤ) (d e : ℕ) (s₁ s₂ p₁ p₂ : List ℕ) :
 
 -- the code of a bad record, which a stream that stops gives, and one that has stopped
 abbrev pub nine : ℤ
-nine = negℤ (pos 9)
+nine = codeOf (halted 0 0)
 
 -- two outcomes of one feed, which may have stopped the stream
 pub record OneFed (m n : ℤ) (i j d e : ℕ) (s₁ s₂ c₁ c₂ p₁ p₂ : List ℕ) : Type 0 where

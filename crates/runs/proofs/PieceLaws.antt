@@ -96,7 +96,8 @@ short-end n whole h = let z : _≡_ {A = ℕ} 0 1 = cc in absurd (omega arith)
 short-end n (unknownAt i) h = let z : _≡_ {A = ℕ} 0 1 = cc in absurd (omega arith)
 short-end n (cutAt i) h = refl
 
-all-end : (e : End) → stopOf e ≡ All → e ≡ whole
+-- all was read
+pub all-end : (e : End) → stopOf e ≡ All → e ≡ whole
 all-end whole h = refl
 all-end (unknownAt i) h = let z : _≡_ {A = ℕ} 0 1 = cc in absurd (omega arith)
 all-end (cutAt i) h = let z : _≡_ {A = ℕ} 0 1 = cc in absurd (omega arith)

@@ -12,6 +12,7 @@ use Rattle.nodes.specs.Nodes.{used}
 use Rattle.nodes.specs.declared.Shape.{Shape}
 use Rattle.nodes.proofs.NodesLaws.{cols-rest}
 use Rattle.rules.specs.State.{State}
+use Rattle.rules.specs.Records.{Request}
 use Rattle.rules.specs.Requests.{run}
 use Rattle.rules.specs.Bytes.{End, whole, unknownAt, cutAt, parseFrom, parse, roomFor, encodeAll}
 use Rattle.rules.specs.Refusals.{storeBytes, mostRequestBytes, broken, brokenAt}
@@ -30,15 +31,11 @@ use Rattle.rules.specs.declared.Turned.the-variants.{ShortStore, DamagedStore, 
 use Rattle.wire.specs.CarriedOut.{HasRoom}
 use Rattle.s3_fifo.specs.declared.Ran.the-variants.{Done, Refused}
 use Rattle.runs.specs.Runs.{Runs}
+use Rattle.runs.proofs.PieceLaws.{all-end}
 use Rattle.s3_fifo.specs.Away.{TurnsAway}
-use Rattle.s3_fifo.specs.Calls.{gave, Called}
+use Rattle.s3_fifo.specs.Calls.{gave, Settled, Called}
 
 -- ---- what the survey says of the verdict's rows
-
-whole-end : (e : End) → stopOf e ≡ Whole → e ≡ whole
-whole-end whole h = refl
-whole-end (unknownAt i) h = let z : _≡_ {A = ℕ} 0 1 = cc in absurd (omega arith)
-whole-end (cutAt i) h = let z : _≡_ {A = ℕ} 0 1 = cc in absurd (omega arith)
 
 -- a record is no record, and its offset is where the walk ended
 broken-end : (e : End) (n : ℕ) → (stopOf e ≡ Whole → ⊥) → (broken e ≡ true) × (brokenAt e ≡ endAt n e)
@@ -51,7 +48,7 @@ module _ {v : Survey} (q : List ℕ) (g : v ≡ surveyed (length q) (parse q)) w
   room-is = ap (λ (y : Survey). y .room) g
 
   pub survey-whole : {t : Stop} → t ≡ v .stop → t ≡ Whole → parse q .end ≡ whole
-  survey-whole e h = whole-end (parse q .end) (ap (λ (y : Survey). y .stop) (sym g) ∙ sym e ∙ h)
+  survey-whole e h = all-end (parse q .end) (ap (λ (y : Survey). y .stop) (sym g) ∙ sym e ∙ h)
 
   pub survey-ready : {p : List ℕ} → v .room ≤ length p → HasRoom (parseFrom q 0 .requests) p 0
   unfolding parse
@@ -66,6 +63,25 @@ called-short h q p = record { store = short; store-is = h; leaves = (refl, refl,
 pub called-damaged : {s : List ℕ} → storeBytes ≤ length s → {r : Checked} → Checks s r → r ≡ Damaged → (q p : List ℕ) → Called s q p (Refused DamagedStore) s p
 unfolding call
 called-damaged b c e q p = record { store = damaged; store-is = (b, c .damaged e); leaves = (refl, refl, refl); untouched = λ u. refl }
+
+-- ---- what a run from the front of the reply buffer leaves
+
+module _ {z : Shape} {s s′ : List ℕ} {rs : List Request} {p p′ : List ℕ} {n : ℕ} (x : Runs z s s′ rs p p′ 0 n) where
+  -- the store holds its state, and what stands behind stayed
+  pub runs-settled : Settled s s′ (run (stateIn z s) rs .state)
+  runs-settled =
+      let τ : State = run (stateIn z s) rs .state in
+      let y : z ≡ shapeFor (τ .limits) =
+      x .held .keeps .shaped ∙ ap shapeFor (sym (limits-shown z s′) ∙ ap (λ (τ : State). τ .limits) (x .carried .state)) in
+      let u : drop (used z) s′ ≡ drop (used z) s = sym (cols-rest z s′) ∙ x .rest ∙ cols-rest z s in
+      record { holds = rw (x .carried .state) at (held-holds (x .held)); surplus = rw y at u; same-length = x .same }
+
+  -- and the replies stand in front of what was there
+  pub runs-written : let bs : List ℕ = encodeAll (run (stateIn z s) rs .replies) in (n ≡ length bs) × (p′ ≡ bs ++ drop (length bs) p)
+  unfolding splice
+  runs-written =
+      let bs : List ℕ = encodeAll (run (stateIn z s) rs .replies) in
+      (x .carried .count ∙ zero-add (length bs), x .carried .replies ∙ ap (λ (k : ℕ). bs ++ drop k p) (zero-add (length bs)))
 
 -- ---- a sound store
 
@@ -116,23 +132,16 @@ module _ {z : Shape} {s : List ℕ} (b : storeBytes ≤ length s) (h : Held z s)
           }
 
       pub called-ran : v .room ≤ length p → {s′ p′ : List ℕ} {n : ℕ} → Runs z s s′ (parseFrom q 0 .requests) p p′ 0 n → Called s q p (Done n) s′ p′
-      unfolding call splice parse
+      unfolding call parse
       called-ran k {s′} {p′} {n} x =
           let w = survey-whole q g e all in
-          let σ′ : State = run (stateIn z s) (parse q .requests) .state in
-          let bs : List ℕ = encodeAll (run (stateIn z s) (parse q .requests) .replies) in
-          let y : z ≡ shapeFor (σ′ .limits) =
-          x .held .keeps .shaped ∙ ap shapeFor (sym (limits-shown z s′) ∙ ap (λ (τ : State). τ .limits) (x .carried .state)) in
-          let u : drop (used z) s′ ≡ drop (used z) s = sym (cols-rest z s′) ∙ x .rest ∙ cols-rest z s in
+          let y = runs-written x in
           record {
             store = reads (stateIn z s);
             store-is = (b, held-holds h);
             leaves =
-                rw (le-ltb mostRequestBytes (length q) l, w, le-ltb (length p) (roomFor (parse q .requests)) (omega (arith, room-is q g))) (
-                  ap (λ (k : ℕ). gave k) (x .carried .count ∙ zero-add (length bs)),
-                  record { holds = rw (x .carried .state) at (held-holds (x .held)); surplus = rw y at u; same-length = x .same },
-                  x .carried .replies ∙ ap (λ (k : ℕ). bs ++ drop k p) (zero-add (length bs)),
-                );
+                rw (le-ltb mostRequestBytes (length q) l, w, le-ltb (length p) (roomFor (parse q .requests)) (omega (arith, room-is q g)))
+                (ap (λ (k : ℕ). gave k) (y .0), runs-settled x, y .1);
             untouched = x .untouched;
           }
 

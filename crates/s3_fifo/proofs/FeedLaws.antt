@@ -5,38 +5,33 @@ use mathlib.Core.Bool.{true, false}
 use mathlib.Core.List.{List, [], _++_}
 use Prim.Native.Nat.{ℕ, zero, suc, _+_, _-_, _≤_, _<_}
 use native.Mathlib.Omega.{arith}
-use native.Mathlib.Nat.{zero-add}
 use lib.ListN.{length, take, drop}
 use borrow.Author.Tests.{lt-ltb, le-ltb}
-use Rattle.nodes.specs.Nodes.{used}
 use Rattle.nodes.specs.declared.Shape.{Shape}
-use Rattle.nodes.proofs.NodesLaws.{cols-rest}
 use Rattle.rules.specs.declared.Turned.{Turned}
 use Rattle.rules.specs.declared.Turned.the-variants.{ShortStore, DamagedStore, LongRequests, BadRecord, BadCarry}
-use Rattle.rules.specs.State.{State}
 use Rattle.rules.specs.Records.{Request}
-use Rattle.rules.specs.Requests.{run}
-use Rattle.rules.specs.Bytes.{parse, roomFor, encodeAll}
+use Rattle.rules.specs.Bytes.{parse, roomFor}
 use Rattle.rules.specs.Refusals.{numberOf, detailOf, storeBytes, mostRequestBytes}
 use Rattle.rules.specs.Verdict.{short, damaged, reads}
 use Rattle.rules.specs.Carry.{Carry, lastOffset, leftBy, unfit, carries}
 use Rattle.rules.specs.Feed.{feedOn, completed, feed, finishOn}
 use Rattle.rules.proofs.ReachLaws.{some-kept}
-use Rattle.wire.specs.Wire.{splice}
 use Rattle.carry.specs.declared.Brought.{Brought}
 use Rattle.carry.specs.declared.Brought.the-variants.{Going, Stopped as Halted, Unfit}
 use Rattle.carry.specs.Carries.{keptIn, carriedBy, Brings}
 use Rattle.carry.proofs.CarriesLaws as lent
-use Rattle.store.specs.Holds.{stateIn, shapeFor, Held}
-use Rattle.store.proofs.HoldsLaws.{held-holds, limits-shown}
+use Rattle.store.specs.Holds.{stateIn, Held}
+use Rattle.store.proofs.HoldsLaws.{held-holds}
 use Rattle.soundness.specs.declared.Checked.{Checked}
 use Rattle.soundness.specs.declared.Checked.the-variants.{Damaged}
 use Rattle.soundness.specs.Checks.{Checks}
 use Rattle.runs.specs.declared.Fed.{Fed}
 use Rattle.runs.specs.declared.Fed.the-variants.{Done, Stopped, Refused}
+use Rattle.s3_fifo.proofs.CallLaws.{runs-settled, runs-written}
 use Rattle.s3_fifo.specs.declared.Finish.the-variants.{Complete, Refused as Broken}
-use Rattle.runs.specs.Runs.{FedRan, FedOn}
-use Rattle.s3_fifo.specs.Calls.{gave, halted, turned, Settled}
+use Rattle.runs.specs.Runs.{FedOn}
+use Rattle.s3_fifo.specs.Calls.{gave, halted, turned}
 use Rattle.s3_fifo.specs.Feeds.{FedAs, verdictSays, FinishAs}
 
 -- ---- the store is turned away
@@ -155,21 +150,6 @@ module _ {z : Shape} {s : List ℕ} (l : storeBytes ≤ length s) (h : Held z s)
       next = leftBy o (keptIn c n ++ q) (parse (keptIn c n ++ q) .end)
 
       module _ (few : length q ≤ mostRequestBytes) {s′ c′ p′ : List ℕ} where
-        -- what was carried out
-        settled : {k : ℕ} → FedRan z s s′ c c′ p p′ asked next k → Settled s s′ (run (stateIn z s) asked .state)
-        settled x =
-            let y : z ≡ shapeFor (run (stateIn z s) asked .state .limits) =
-            x .runs .held .keeps .shaped ∙ ap shapeFor (sym (limits-shown z s′) ∙ ap (λ (τ : State). τ .limits) (x .runs .carried .state)) in
-            let u : drop (used z) s′ ≡ drop (used z) s = sym (cols-rest z s′) ∙ x .runs .rest ∙ cols-rest z s in
-            record { holds = rw (x .runs .carried .state) at (held-holds (x .runs .held)); surplus = rw y at u; same-length = x .runs .same }
-
-        written : {k : ℕ} → FedRan z s s′ c c′ p p′ asked next k
-            → let bs : List ℕ = encodeAll (run (stateIn z s) asked .replies) in (k ≡ length bs) × (p′ ≡ bs ++ drop (length bs) p)
-        unfolding splice
-        written x =
-            let bs : List ℕ = encodeAll (run (stateIn z s) asked .replies) in
-            (x .runs .carried .count ∙ zero-add (length bs), x .runs .carried .replies ∙ ap (λ (i : ℕ). bs ++ drop i p) (zero-add (length bs)))
-
         pub going-fed : (a : Fed) → FedOn z s s′ c c′ p p′ asked next a → FedAs s c q p a s′ c′ p′
         unfolding feed feedOn completed
         going-fed (Refused t) f =
@@ -189,7 +169,7 @@ module _ {z : Shape} {s : List ℕ} (l : storeBytes ≤ length s) (h : Held z s)
             }
         going-fed (Done k) f =
             let x = f .fed .1 in
-            let y = written x in
+            let y = runs-written (x .runs) in
             record {
               store = reads (stateIn z s);
               store-is = (l, held-holds h);
@@ -201,12 +181,12 @@ module _ {z : Shape} {s : List ℕ} (l : storeBytes ≤ length s) (h : Held z s)
                 le-ltb (length p) (roomFor asked) (x .room),
                 f .fed .0,
               )
-                  (ap (λ (i : ℕ). gave i) (y .0), settled x, x .put, y .1);
+                  (ap (λ (i : ℕ). gave i) (y .0), runs-settled (x .runs), x .put, y .1);
               untouched = x .runs .untouched;
             }
         going-fed (Stopped k i) f =
             let x = f .fed .2 in
-            let y = written x in
+            let y = runs-written (x .runs) in
             record {
               store = reads (stateIn z s);
               store-is = (l, held-holds h);
@@ -218,7 +198,7 @@ module _ {z : Shape} {s : List ℕ} (l : storeBytes ≤ length s) (h : Held z s)
                 le-ltb (length p) (roomFor asked) (x .room),
                 f .fed .0,
               )
-                  (ap₂ (λ (a b : ℕ). halted a b) (y .0) (sym (f .fed .1)), settled x, x .put, y .1);
+                  (ap₂ (λ (a b : ℕ). halted a b) (y .0) (sym (f .fed .1)), runs-settled (x .runs), x .put, y .1);
               untouched = x .runs .untouched;
             }
 

@@ -5,6 +5,8 @@ use mathlib.Core.Path.{_≡_}
 use mathlib.Core.List.{List, [], _∷_, _++_}
 use Prim.Native.Nat.{ℕ}
 use lib.ListN.{take}
+use Rattle.rules.specs.declared.Turned.the-variants.{BadRecord}
+use Rattle.rules.specs.Refusals.{numberOf}
 use Rattle.runs.specs.declared.Fed.{Fed}
 use Rattle.s3_fifo.specs.declared.Finish.{Finish}
 use Rattle.s3_fifo.specs.declared.Finish.the-variants.{Complete}
@@ -16,7 +18,7 @@ use Rattle.s3_fifo.specs.Once.{SameState}
 abbrev pub NotTurned : Said → Type 0
 NotTurned (gave n) = Unit {0}
 NotTurned (halted n d) = Unit {0}
-NotTurned (turned n d) = n ≡ 9
+NotTurned (turned n d) = n ≡ numberOf (BadRecord d)
 
 -- from the store s and the record c: the pieces, the replies joined, the store and the record after them
 pub data Stream : List ℕ → List ℕ → List (List ℕ) → List ℕ → List ℕ → List ℕ → Type 0 where

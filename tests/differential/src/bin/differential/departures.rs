@@ -1,9 +1,9 @@
 //! Every departure from the original, shown on a small input: what ours does, what the original does. The table of
 //! docs/DIFFERENCES.md is what this prints; each row is tried before it is printed.
 
-use crate::feed::{self, Answer};
 use mapcache::{
-    CARRY_BYTES, DEFAULT_GHOST_RATIO, DEFAULT_SMALL_RATIO, GuestBlock, PhysicalBlock, Reply, Request, Settings,
+    CARRY_BYTES, DEFAULT_GHOST_RATIO, DEFAULT_SMALL_RATIO, Fed, GuestBlock, PhysicalBlock, Refusal, Reply, Request,
+    Settings, feed, finish,
 };
 use original::driver::Original;
 use original::policy::s3_fifo::S3FifoCache;
@@ -119,12 +119,12 @@ fn stream_rows() {
         [(1, "a feed of CL, with a carry at offset 1"), (u64::MAX - 1, "a feed of CL, with a carry at offset 2^64 - 2")]
     {
         let (mut store, mut carry) = (created(), carry(offset, b""));
-        let answer = feed::feed(&mut store, &mut carry, b"CL", &mut [0; 2]);
-        assert_eq!(answer, Answer { answer: -17, replied: 0, detail: 0 }, "{input}");
+        let fed = feed(&mut store, &mut carry, b"CL", &mut [0; 2]);
+        assert_eq!(fed, Fed { replied: 0, refused: Some(Refusal::BadCarry) }, "{input}");
         assert!(store == created() && carry == self::carry(offset, b""), "{input}: something changed");
         row(input);
     }
-    assert_eq!(feed::finish(&carry(18, b"EV")), (-17, 0));
+    assert_eq!(finish(&carry(18, b"EV")), Err(Refusal::BadCarry));
     row("a finish, with a carry that keeps EV, a whole record");
 }
 

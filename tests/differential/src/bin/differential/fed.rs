@@ -1,10 +1,9 @@
 //! The same requests on a second store, as a stream in pieces that are cut anywhere.
 
 use crate::ending::Ending;
-use crate::feed::{Answer, feed, finish};
 use crate::pair::UNTOUCHED;
 use common::Random;
-use mapcache::{CARRY_BYTES, MOST_REQUEST_BYTES, Request};
+use mapcache::{CARRY_BYTES, Fed as FedBytes, MOST_REQUEST_BYTES, Refusal, Request, feed, feed_room, finish};
 
 /// What stands behind the carry, and must stay.
 const BEHIND: [u8; 8] = [UNTOUCHED; 8];
@@ -116,17 +115,15 @@ impl Fed {
     /// Feeds a piece, and holds its replies to those that the original has given since the last one. Its reply buffer is
     /// as long as the piece asks, or as suffices for every piece of its length.
     pub fn feed(&mut self, piece: &Piece, expected: &[u8]) -> Result<(), String> {
-        let enough = if self.random.one_in(2) { piece.room } else { 18 * (piece.bytes.len() + 17) };
+        let enough = if self.random.one_in(2) { piece.room } else { feed_room(piece.bytes.len()) };
         self.replies.clear();
         self.replies.resize(enough, UNTOUCHED);
         let was_stopped = self.is_stopped();
         let answer = feed(&mut self.store, &mut self.carry, &piece.bytes, &mut self.replies);
         self.position += piece.bytes.len() as u64;
-        let replied = expected.len() as u64;
-        let right = match self.mark {
-            Some(mark) if self.is_stopped() => Answer { answer: -9, replied, detail: mark },
-            _ => Answer { answer: replied as i64, replied, detail: 0 },
-        };
+        let stopped_at = self.mark.filter(|_| self.is_stopped());
+        let right =
+            FedBytes { replied: expected.len(), refused: stopped_at.map(|offset| Refusal::BadRecord { offset }) };
         if answer != right {
             return Err(format!("{}: the library answers {answer:?}; it must be {right:?}", self.at(piece)));
         }
@@ -134,7 +131,7 @@ impl Fed {
         if replies != expected || rest.iter().any(|byte| *byte != UNTOUCHED) {
             return Err(format!("{}: the replies differ, or the library wrote behind them", self.at(piece)));
         }
-        self.note(piece, replied > 0, was_stopped);
+        self.note(piece, !expected.is_empty(), was_stopped);
         Ok(())
     }
 
@@ -169,7 +166,8 @@ impl Fed {
             (Ending::Unknown(_), Some(mark)) => (mark, &[][..], 1, "streams finished, stopped"),
             _ => (self.position, &[][..], 0, "streams finished, complete"),
         };
-        let right = if stopped == 1 || !kept.is_empty() { (-9, offset) } else { (0, 0) };
+        let bad = stopped == 1 || !kept.is_empty();
+        let right = if bad { Err(Refusal::BadRecord { offset }) } else { Ok(()) };
         let said = finish(&self.carry);
         if said != right {
             return Err(format!("a finish says {said:?} at the stream's end; it must be {right:?}"));

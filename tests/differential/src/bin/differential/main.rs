@@ -3,7 +3,6 @@
 mod departures;
 mod ending;
 mod fed;
-mod feed;
 mod pair;
 mod recorded;
 mod runs;

@@ -129,8 +129,11 @@ def traces():
     trace(settings(1), (IN(7, 70) + EV, NW(0) + ES(7, 70) + MI))
     # G
     trace(settings(2, 1.0, 0.9), (IN(1, 10) + IN(2, 20) + IN(3, 30), NW(0) + NW(0) + ES(1, 10) + NW(1)))
-    # H; that 7 is in Small afterwards shows when it leaves
-    trace(settings(1, 0.1, 0.0), (a, told), (IN(9, 90), ES(7, 71) + NW(1)))
+    # H, with either zero; that 7 is in Small afterwards shows when it leaves. B's Small limit is 0, so that -0.0 gives its answers
+    for zeros in [(0.1, 0.0), (0.1, -0.0), (0.0, 0.0), (0.0, -0.0), (-0.0, 0.0), (-0.0, -0.0)]:
+        trace(settings(1, *zeros), (a, told), (IN(9, 90), ES(7, 71) + NW(1)))
+    for zero in [0.0, -0.0]:
+        trace(settings(2, zero), TRACE_B)
 
 
 def other_rules():
@@ -150,15 +153,16 @@ def refusals_1_to_5():
     nan, inf = float("nan"), float("inf")
     above = struct.unpack("<d", struct.pack("<Q", 0x3FF0000000000001))[0]  # the double after 1.0
     below = struct.unpack("<d", struct.pack("<Q", 0x3FF001FFFFFFFFFF))[0]  # the double before 1.00048828125
+    least = struct.unpack("<d", struct.pack("<Q", 0x8000000000000001))[0]  # the double before -0.0
     fill(MEMORY)
     refused_settings(1, settings(0), settings(0, nan, nan))
     refused_settings(2, settings(1025), settings(2 ** 64 - 1), settings(1025, nan, nan))
-    refused_settings(3, settings(1, nan), settings(1, inf), settings(1, -inf), settings(1, above), settings(1, -0.0),
-                     settings(1, -0.5), settings(1, nan, nan), settings(1024, 2.0, 2.0))
-    refused_settings(4, settings(1, 0.1, nan), settings(1, 0.1, inf), settings(1, 0.1, -inf), settings(1, 0.1, -0.0),
-                     settings(1, 0.1, -0.5))
+    refused_settings(3, settings(1, nan), settings(1, inf), settings(1, -inf), settings(1, above), settings(1, least),
+                     settings(1, -0.5), settings(1, least, least), settings(1, nan, nan), settings(1024, 2.0, 2.0))
+    refused_settings(4, settings(1, 0.1, nan), settings(1, 0.1, inf), settings(1, 0.1, -inf), settings(1, 0.1, least),
+                     settings(1, 0.1, -0.5), settings(1, -0.0, least))
     refused_settings(5, settings(1024, 0.1, 1.00048828125), settings(1, 0.1, 1024.5), settings(1024, 0.1, 1e308))
-    accepted_settings(settings(1), settings(1024), settings(1, 0.0, 0.0), settings(1, 1.0, 1024.0),
+    accepted_settings(settings(1), settings(1024), settings(1, 0.0, 0.0), settings(4, -0.0, -0.0), settings(1, 1.0, 1024.0),
                       settings(1, 1.0, 1024.25), settings(1024, 1.0, 1.0), settings(1024, 0.1, below))
     replay(b"", no(9))
     replay(settings(1)[:25], no(9))

@@ -45,7 +45,7 @@ def limit(capacity, ratio):
 
 
 def no_ratio(bits):
-    return value(bits) is None or bits & SIGN != 0
+    return value(bits) is None or value(bits) < 0
 
 
 def answer(capacity, small, ghosts):
@@ -84,14 +84,20 @@ add(5)
 add(1024)
 add(1, decimal("0.49999999999999994"), 0)
 add(1024, ONE, ONE)
+add(4, SIGN, SIGN)
 add(1024, SMALL, decimal("1.00048828125"))
 # every capacity with the default ratios, and some that are far above
 for capacity in list(range(0, 1026)) + [2048, 1 << 31, 1 << 32, 1 << 52, (1 << 53) + 1, (1 << 63) - 1, 1 << 63, (1 << 64) - 1024, (1 << 64) - 1]:
     add(capacity)
 # refusals that meet: the lowest wins
 for capacity in [0, 1, 1024, 1025, 1 << 63]:
-    for small in [SMALL, ONE + 1, SIGN, INFINITY, INFINITY + 1]:
-        for ghosts in [GHOSTS, SIGN, INFINITY, INFINITY + 1, INFINITY - 1]:
+    for small in [SMALL, ONE + 1, SIGN + 1, INFINITY, INFINITY + 1]:
+        for ghosts in [GHOSTS, SIGN + 1, INFINITY, INFINITY + 1, INFINITY - 1]:
+            add(capacity, small, ghosts)
+# either zero for either ratio
+for capacity in [1, 2, 1023, 1024]:
+    for small in [0, SIGN]:
+        for ghosts in [0, SIGN]:
             add(capacity, small, ghosts)
 # zeros, the smallest and largest of each kind, 1 and its neighbours, infinities, NaNs, each with either sign
 odd = [0, 1, 2, 3, (1 << 52) - 1, 1 << 52, (1 << 52) + 1, ONE - (1 << 52), ONE - 1, ONE, ONE + 1, ONE + (1 << 52)]

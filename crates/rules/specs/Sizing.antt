@@ -1,13 +1,13 @@
 -- What sizing means: from a capacity and two ratios to the limits, or to a refusal by its number (RULES 2, and the refusals 1 to 5 of RULES 8.1).
 -- A float is lib.Ieee's: `fin s m e` is m * 2 ^ e exactly, with its sign apart, and num / den is its size as a fraction of two whole numbers.
 -- Assumes nothing.
-use mathlib.Core.Bool.{Bool, true, false, not, _&&_, _||_, cond}
+use mathlib.Core.Bool.{Bool, false, not, _&&_, _||_, cond}
 use mathlib.Core.List.{List}
 use Prim.Native.Nat.{ℕ, _+_, _*_, _/_, _≤_, _<_}
 use lib.Dec.{ltb, leb, eqb}
 use lib.IntN.{pos}
 use lib.ListN.{length, getD}
-use lib.Ieee.{Float, nan, inf, fin, binary64, mul, round, ofInt, ofBits, lt}
+use lib.Ieee.{Float, fin, binary64, mul, round, ofInt, ofBits, lt}
 use lib.Ieee.Positive.{num, den}
 use lib.Ieee.Scale.{finite}
 use Rattle.cells.specs.Cells.{le}
@@ -24,7 +24,7 @@ product capacity ratio = mul binary64 (ofInt binary64 (pos capacity)) ratio
 unfoldable pub halfUp : ℕ → ℕ → ℕ
 halfUp n d = (2 * n + d) / (2 * d)
 
--- of a finite float, by its size: what is accepted has its sign clear
+-- of a finite float, by its size: what is accepted is not below zero, so its size is its value
 unfoldable pub nearest : Float → ℕ
 unfolding halfUp
 nearest p = halfUp (num p) (den p)
@@ -36,15 +36,17 @@ pub record Nearest (p : Float) (c : ℕ) : Type 0 where
 
 -- ---- what is refused
 
--- no ratio: a NaN, an infinity, or a number with its sign bit set
-unfoldable pub badRatio : Float → Bool
-badRatio nan = true
-badRatio (inf s) = true
-badRatio (fin s m e) = s
+-- 0.0 and 1.0
+abbrev pub nought : Float
+nought = fin false 0 (pos 0)
 
--- 1.0
 abbrev pub unit : Float
 unit = fin false 1 (pos 0)
+
+-- no ratio: a NaN, an infinity, or below zero, as floats compare; -0.0 is not
+unfoldable pub badRatio : Float → Bool
+unfolding lt
+badRatio r = not (finite r) || lt r nought
 
 -- the product gives more than l, an infinite one included
 unfoldable pub beyond : ℕ → Float → Bool

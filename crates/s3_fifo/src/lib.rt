@@ -124,7 +124,7 @@ impl S3FifoCache {
     pub const CARRY_BYTES: usize = rules::CARRY_BYTES;
 
     // The version of the interface. It stands here alone: header, wrapper and programs take it from here (tools/version).
-    pub const VERSION: [u8; 5] = *b"0.4.0";
+    pub const VERSION: [u8; 5] = *b"0.5.0";
 
     // The settings that a capacity alone stands for.
     pub fn settings(capacity: u64) -> Settings

@@ -5,6 +5,7 @@ pub mod MagnitudeLaws
 pub mod ProductsLaws
 pub mod CutLaws
 pub mod OrderLaws
+pub mod RatiosLaws
 pub mod RecordLaws
 pub mod NearestLaws
 pub mod AcceptedLaws

@@ -1,20 +1,18 @@
--- What a pattern of 64 bits says of the float that it stands for: `cut` and `badRatio` worked out from the bits, as the code does.
+-- What a pattern of 64 bits says of the float that it stands for: `cut` worked out from the bits, as the code does.
 -- Assumes nothing.
 use mathlib.Core.Path.{_≡_, refl, sym, ap, _∙_, subst}
 use mathlib.Core.Bool.{Bool, true, false, not, cond}
 use Prim.Native.Nat.{ℕ, zero, suc, _+_, _-_, _*_, _/_, _^_, _≤_, _<_, min}
 use native.Mathlib.Nat.{mul-one, div-le-self, min-eq-left, min-eq-right, le-of-suc-le-suc}
 use native.Mathlib.Omega.{arith}
-use lib.Dec.{T, leb, eqb, leb→le, nleb→lt, eqb→eq, lit<}
+use lib.Dec.{T, eqb, eqb→eq, lit<}
 use lib.Arith.{lt-of-le-ne}
 use lib.Pow.{pow-pos}
-use lib.Ieee.{Float, nan, inf, fin, binary64, up, down, odd, fits, isNan, ne, ofFields, ofBits, toBits}
+use lib.Ieee.{Float, nan, inf, fin, binary64, up, down, odd, fits, isNan, ofFields, ofBits, toBits}
 use lib.Ieee.Fits.{down-pos, eq→eqb}
 use lib.Ieee.Bits.{ofBits-toBits}
 use lib.Ieee.Exact.{HasValue, odd-sign}
-use lib.Ieee.Compare.{differs-from-itself}
-use borrow.Author.Tests.{le-leb, lt-leb}
-use Rattle.rules.specs.Sizing.{badRatio, nearest, halfUp}
+use Rattle.rules.specs.Sizing.{nearest, halfUp}
 use Rattle.sizing.specs.Cut.{cut}
 use Rattle.sizing.specs.NearestBits.{negative, field, digits, units, BitsRead, endless, no-number, number}
 use Rattle.sizing.proofs.RoundLaws.{same, low, high, middle}
@@ -71,29 +69,6 @@ no-nan : (v : Float) → T (not (isNan v)) → v ≡ nan → ⊥
 unfolding isNan
 no-nan v n e = subst (λ (x : Float). T (not (isNan x))) e n
 
-bad-value : (v : Float) (s : Bool) (u : ℕ) → HasValue v s u (2 ^ 1074) → s ≡ badRatio v
-unfolding badRatio
-bad-value nan s u h = absurd h
-bad-value (inf t) s u h = absurd h
-bad-value (fin t m e) s u h = sym (h .0)
-
--- what differs from itself
-pub bad-nan : (v : Float) → ne v v ≡ true → true ≡ badRatio v
-unfolding badRatio
-bad-nan v e = sym (ap badRatio (differs-from-itself v (subst T (sym e) tt)))
-
-bad-inf : (v : Float) (s : Bool) → v ≡ inf s → true ≡ badRatio v
-unfolding badRatio
-bad-inf v s e = sym (ap badRatio e)
-
--- from 0x7ff0_0000_0000_0000 on: below 2 ^ 63 that is what the field says
-sign-test : (b : ℕ) → field b < 2047 → leb (2047 * 2 ^ 52) b ≡ negative b
-sign-test b h = go (negative b) (leb→le (2 ^ 63) b) (nleb→lt (2 ^ 63) b)
-  where
-    go : (t : Bool) → (T t → 2 ^ 63 ≤ b) → (T (not t) → b < 2 ^ 63) → leb (2047 * 2 ^ 52) b ≡ t
-    go true p q = le-leb (2047 * 2 ^ 52) b (omega (arith, p tt))
-    go false p q = lt-leb (2047 * 2 ^ 52) b (omega (arith, q tt))
-
 -- ---- of a value that the format holds and that is no NaN, by the bits that it has
 
 module _ (v : Float) (F : T (fits binary64 v)) (N : T (not (isNan v))) where
@@ -128,11 +103,4 @@ module _ (v : Float) (F : T (fits binary64 v)) (N : T (not (isNan v))) where
         sym
         (cut-value v (negative bits) size h
         ∙ simp (middle-units (field bits) (digits bits) l u) (min-eq-left (omega (arith, div-le-self (2 ^ 52 + digits bits) (2 ^ (1074 - field bits))))))
-  ]
-
-  pub bad-is : leb (2047 * 2 ^ 52) bits ≡ badRatio v
-  bad-is = elim read-of [
-    | endless x e ↦ le-leb (2047 * 2 ^ 52) bits (omega arith) ∙ bad-inf v (negative bits) e
-    | no-number x e ↦ absurd (no-nan v N e)
-    | number x h ↦ sign-test bits x ∙ bad-value v (negative bits) size h
   ]

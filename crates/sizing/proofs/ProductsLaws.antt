@@ -2,7 +2,7 @@
 -- Assumes nothing.
 use mathlib.Core.Path.{_≡_, sym, ap, _∙_}
 use mathlib.Core.Bool.{true, false, not, true≢false}
-use Prim.Native.Nat.{ℕ, _*_, _≤_}
+use Prim.Native.Nat.{ℕ, _+_, _*_, _≤_}
 use native.Mathlib.Nat.{le-trans, le-of-eq, mul-assoc, mul-le-mul-left, mul-one, mul-pos}
 use native.Mathlib.Omega.{arith}
 use lib.Pow.{pow-pos}
@@ -31,7 +31,7 @@ good-up-to-one : (r : Float) → badRatio r ≡ false → lt unit r ≡ false �
 unfolding badRatio lt
 good-up-to-one nan b u = absurd (true≢false b)
 good-up-to-one (inf s) b u = absurd (true≢false b)
-good-up-to-one (fin true n d) b u = absurd (true≢false b)
+good-up-to-one (fin true n d) b u = omega (arith, ltb-false 0 (n * up d * 1 + 0 * 1 * down d) b)
 good-up-to-one (fin false n d) b u = omega (arith, ltb-false (1 * 1 * down d) (n * up d * 1) u)
 
 -- ---- the product

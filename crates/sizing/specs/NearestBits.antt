@@ -1,9 +1,9 @@
--- The nearest whole number to a double, from the double's bits alone: no float has to be believed to read it.
+-- Which doubles are no ratios, and the nearest whole number to one, from a double's bits alone: no float has to be believed to read it.
 -- Assumes nothing.
 use mathlib.Core.Path.{_≡_}
-use mathlib.Core.Bool.{Bool}
+use mathlib.Core.Bool.{Bool, _||_}
 use Prim.Native.Nat.{ℕ, zero, suc, _+_, _*_, _/_, _%_, _^_, _≤_, _<_}
-use lib.Dec.{leb}
+use lib.Dec.{leb, ltb, eqb}
 use lib.Ieee.{Float, nan, inf}
 use lib.Ieee.Exact.{HasValue}
 
@@ -28,6 +28,10 @@ pub data BitsRead (s : Bool) (x t : ℕ) (v : Float) : Type 0 where
   endless : x ≡ 2047 → v ≡ inf s → BitsRead s x t v
   no-number : x ≡ 2047 → v ≡ nan → BitsRead s x t v
   number : x < 2047 → HasValue v s (units x t) (2 ^ 1074) → BitsRead s x t v
+
+-- no ratio's: the exponent's field is full, as in an infinity and in a NaN, or the bits are above those of -0.0
+abbrev pub noRatio : ℕ → Bool
+noRatio b = eqb (field b) 2047 || ltb (2 ^ 63) b
 
 -- c is nearest to the finite number with the bits b, halves up: 2c - 1 <= 2p < 2c + 1, where p is so many units
 pub record NearestBits (b c : ℕ) : Type 0 where

@@ -43,14 +43,14 @@ pub enum Read {
     Bad,
 }
 
-// Whether x is no ratio: a NaN, an infinity, or with its sign bit set.
+// Whether x is no ratio: a NaN, an infinity, or below zero. -0.0 is not below 0.0, and a NaN is below nothing.
 fn bad_ratio(x: f64) -> bool
     ensures { λ r. ⌜ r ≡ badRatio x ⌝ }
 {
-    if x != x {
+    if x < 0.0 {
         return true;
     }
-    0x7ff0_0000_0000_0000 <= f64::to_bits(x)
+    !(x < 1.0 / 0.0)
 }
 
 // The whole number nearest to the size of x, halves up, worked out from the bits. It is cut off at 2^52.

@@ -13,9 +13,9 @@ pub enum Refusal {
     CapacityZero,
     /// 2: the capacity is above 1,024.
     CapacityLarge,
-    /// 3: the small ratio is NaN, infinite, above 1, or has its sign bit set.
+    /// 3: the small ratio is NaN, infinite, above 1, or below zero. -0.0 is not below zero.
     SmallRatio,
-    /// 4: the ghost ratio is NaN, infinite, or has its sign bit set.
+    /// 4: the ghost ratio is NaN, infinite, or below zero. -0.0 is not below zero.
     GhostRatio,
     /// 5: the ghost limit is above 1,024.
     GhostLimit,

@@ -81,9 +81,21 @@ fn settings_are_refused() {
     assert_eq!(refused(0, 0.1, 0.9), Refusal::CapacityZero);
     assert_eq!(refused(1025, 0.1, 0.9), Refusal::CapacityLarge);
     assert_eq!(refused(1, f64::NAN, 0.9), Refusal::SmallRatio);
-    assert_eq!(refused(1, 0.1, -0.0), Refusal::GhostRatio);
+    assert_eq!(refused(1, -f64::from_bits(1), 0.9), Refusal::SmallRatio);
+    assert_eq!(refused(1, 0.1, -f64::from_bits(1)), Refusal::GhostRatio);
     assert_eq!(refused(1024, 0.1, 1.00048828125), Refusal::GhostLimit);
     assert_eq!(Cache::create(Settings::with_capacity(1), [0; 64]).unwrap_err(), Refusal::StoreShort);
+}
+
+#[test]
+fn negative_zero_is_zero() {
+    let store =
+        |small_ratio, ghost_ratio| Cache::new(Settings { capacity: 4, small_ratio, ghost_ratio }).unwrap().into_store();
+    assert_eq!(store(-0.0, 0.9), store(0.0, 0.9));
+    assert_eq!(store(0.1, -0.0), store(0.1, 0.0));
+    assert_eq!(store(-0.0, -0.0), store(0.0, 0.0));
+    assert_ne!(store(0.5, 0.9), store(0.0, 0.9));
+    assert_ne!(store(0.1, 0.9), store(0.1, 0.0));
 }
 
 #[test]

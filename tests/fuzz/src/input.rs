@@ -34,7 +34,7 @@ pub fn fit_settings(random: &mut Random) -> Settings {
 }
 
 fn ratio(random: &mut Random, capacity: u64) -> f64 {
-    const SPECIAL: [f64; 16] = [
+    const SPECIAL: [f64; 17] = [
         0.0,
         -0.0,
         1.0,
@@ -48,6 +48,7 @@ fn ratio(random: &mut Random, capacity: u64) -> f64 {
         f64::MIN,
         f64::MIN_POSITIVE,
         5e-324,
+        -5e-324,
         -1.0,
         0.1,
         0.9,

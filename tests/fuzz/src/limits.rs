@@ -1,4 +1,4 @@
-//! Every buffer length around each limit, one by one.
+//! Every ratio and every buffer length around each limit, one by one.
 
 use crate::calls::Calls;
 use crate::input;
@@ -12,6 +12,7 @@ const AROUND: usize = 9;
 
 pub fn all(calls: &mut Calls, tally: &mut Tally, random: &mut Random) -> Result<(), String> {
     let before = calls.made;
+    ratios(calls, tally, random)?;
     store_lengths(calls, tally, random)?;
     let mut store = vec![0xA5; STORE_BYTES];
     tally.creation(&calls.create(Settings::with_capacity(3), &mut store, random)?);
@@ -23,6 +24,23 @@ pub fn all(calls: &mut Calls, tally: &mut Tally, random: &mut Random) -> Result<
 
 pub fn around(limit: usize) -> std::ops::RangeInclusive<usize> {
     limit.saturating_sub(AROUND)..=limit + AROUND
+}
+
+/// Zero and one and what is next to them, the largest, and what is no number, each with either sign; and each with each.
+fn ratios(calls: &mut Calls, tally: &mut Tally, random: &mut Random) -> Result<(), String> {
+    let one = [1.0f64.next_down(), 1.0, 1.0f64.next_up()];
+    let ends = [0.0, 5e-324, f64::MIN_POSITIVE, f64::MAX, f64::INFINITY, f64::NAN];
+    let each: Vec<f64> = [&one[..], &ends].concat().iter().flat_map(|ratio| [*ratio, -ratio]).collect();
+    let mut store = vec![0x5A; STORE_BYTES];
+    for capacity in [1, 4, 1024] {
+        for small_ratio in each.iter().copied() {
+            for ghost_ratio in each.iter().copied() {
+                let settings = Settings { capacity, small_ratio, ghost_ratio };
+                tally.creation(&calls.create(settings, &mut store, random)?);
+            }
+        }
+    }
+    Ok(())
 }
 
 /// Stores from nothing on, and around the size that they need.

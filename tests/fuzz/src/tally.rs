@@ -75,7 +75,7 @@ impl Tally {
     }
 
     pub fn print(&self) {
-        println!("  calls at every length around each limit: {}", self.at_limits);
+        println!("  calls at every length and ratio around each limit: {}", self.at_limits);
         self.creations.print("create");
         self.runs.print("run");
         self.feeds.print();

@@ -68,7 +68,7 @@ pub fn of_run(store: &[u8], requests: &[u8], replies_len: usize) -> Verdict {
 }
 
 pub fn of_create(capacity: u64, small_ratio: f64, ghost_ratio: f64, store_len: usize) -> Verdict {
-    let unfit = |ratio: f64| !ratio.is_finite() || ratio.is_sign_negative();
+    let unfit = |ratio: f64| !ratio.is_finite() || ratio < 0.0;
     let limit = |ratio: f64| (capacity as f64 * ratio).round();
     if capacity == 0 {
         refused(1)

@@ -1,19 +1,17 @@
--- `sizing::bad_ratio` meets its contract: a NaN differs from itself, and of any other float the bits tell.
+-- `sizing::bad_ratio` meets its contract: its two comparisons say what `badRatio` says, and 1 / 0 is the infinity.
 -- Assumes nothing.
-use borrow.Author.Needs.{needs}
-use Rattle.sizing.proofs.FloatsLaws.{no-nan}
-use Rattle.sizing.proofs.PatternsLaws.{bad-nan, bad-is}
+use lib.Ieee.{ofBits, div}
+use Rattle.sizing.proofs.FloatsLaws.{bad-below, bad-else}
 use Rattle.sizing.proofs.bad_ratio.Statement.{statement}
 use Rattle.sizing.proofs.bad_ratio.Tie as tie
 
 returns : tie.Need-returns
-returns c = search bad-nan
-
-float-to-bits-result : tie.Need-float-to-bits-result
-float-to-bits-result c = search no-nan
+unfolding ofBits
+returns c = search bad-below
 
 returns-2 : tie.Need-returns-2
-returns-2 c = bad-is (c .before .args .x) (search needs) (search no-nan)
+unfolding ofBits div
+returns-2 c = search bad-else
 
 pub bad-ratio-spec : {M : Type 1} → statement M
-bad-ratio-spec = tie.close (tie.spec returns float-to-bits-result returns-2)
+bad-ratio-spec = tie.close (tie.spec returns returns-2)

@@ -35,13 +35,11 @@ fn creation_rows() {
     refused(1, "capacity 0", settings(0, small, large), Errs);
     refused(2, "capacity 1,025", settings(1025, small, large), Accepts);
     refused(2, "capacity 2^64 - 1, ghost ratio 0.0", settings(u64::MAX, small, 0.0), Panics);
-    for (ratio, outcome) in
-        [(f64::NAN, Errs), (f64::INFINITY, Errs), (1.0f64.next_up(), Errs), (-0.1, Errs), (-0.0, Accepts)]
-    {
-        refused(3, &format!("capacity 4, small ratio {ratio:?}"), settings(4, ratio, large), outcome);
+    for ratio in [f64::NAN, f64::INFINITY, 1.0f64.next_up(), -0.1] {
+        refused(3, &format!("capacity 4, small ratio {ratio:?}"), settings(4, ratio, large), Errs);
     }
-    for (ratio, outcome) in [(f64::NAN, Errs), (f64::INFINITY, Errs), (-0.1, Errs), (-0.0, Accepts)] {
-        refused(4, &format!("capacity 4, ghost ratio {ratio:?}"), settings(4, small, ratio), outcome);
+    for ratio in [f64::NAN, f64::INFINITY, -0.1] {
+        refused(4, &format!("capacity 4, ghost ratio {ratio:?}"), settings(4, small, ratio), Errs);
     }
     refused(5, "capacity 1,024, ghost ratio 1.00048828125", settings(1024, small, 1.000_488_281_25), Accepts);
     refused(5, "capacity 1, ghost ratio 1025.0", settings(1, small, 1025.0), Accepts);

@@ -12,12 +12,12 @@ const LARGEST_TRIED_GHOSTS: f64 = 100_000.0;
 
 /// How the two may compare. Any other outcome is a difference.
 const SAME_LIMITS: &str = "both accept, with the same limits";
+const NEGATIVE_ZERO: &str = "both accept, with the same limits: a ratio is -0.0";
 const BOTH_REFUSE: &str = "both refuse, for the same reason";
 const BOTH_REFUSE_OTHERWISE: &str = "both refuse: ours the capacity (2), the original a ratio, which it judges first";
 const TOO_LARGE: &str = "only ours refuses: more than 1,024 (2 and 5)";
-const NEGATIVE_ZERO: &str = "only ours refuses: a ratio of -0.0 (3 and 4)";
 const NOT_TRIED: &str = "ours refuses, the original was not tried: it would reserve too much";
-const OUTCOMES: [&str; 6] = [SAME_LIMITS, BOTH_REFUSE, BOTH_REFUSE_OTHERWISE, TOO_LARGE, NEGATIVE_ZERO, NOT_TRIED];
+const OUTCOMES: [&str; 6] = [SAME_LIMITS, NEGATIVE_ZERO, BOTH_REFUSE, BOTH_REFUSE_OTHERWISE, TOO_LARGE, NOT_TRIED];
 
 /// Compares creation for every capacity, with ratios on both sides of every kind of boundary.
 pub fn run(seed: u64) -> Result<(), String> {
@@ -30,6 +30,9 @@ pub fn run(seed: u64) -> Result<(), String> {
         }
         for ghost_ratio in ratios(capacity, MOST_GHOSTS + 1, &mut random) {
             outcomes.push(compare(Settings { capacity, small_ratio: DEFAULT_SMALL_RATIO, ghost_ratio }, &mut store)?);
+        }
+        for (small_ratio, ghost_ratio) in [(0.0, -0.0), (-0.0, 0.0), (-0.0, -0.0)] {
+            outcomes.push(compare(Settings { capacity, small_ratio, ghost_ratio }, &mut store)?);
         }
     }
     report(&outcomes)
@@ -68,16 +71,15 @@ fn compare(settings: Settings, store: &mut [u8]) -> Result<&'static str, String>
     }
     let original = Original::create(settings).map(|original| original.state());
     match (ours, &original) {
-        (Ok(()), Ok(state)) if store::read(store)? == *state => Ok(SAME_LIMITS),
+        (Ok(()), Ok(state)) if store::read(store)? != *state => {
+            Err(format!("{settings}: the limits differ\n ours\n{}\n original\n{state}", store::read(store)?))
+        },
+        (Ok(()), Ok(_)) if has_negative_zero(settings) => Ok(NEGATIVE_ZERO),
+        (Ok(()), Ok(_)) => Ok(SAME_LIMITS),
         (Err(number), Err(error)) if number == refusal_for(error) => Ok(BOTH_REFUSE),
         (Err(2), Err(_)) if settings.capacity > MOST_CAPACITY => Ok(BOTH_REFUSE_OTHERWISE),
         (Err(2), Ok(state)) if state.capacity > MOST_CAPACITY => Ok(TOO_LARGE),
         (Err(5), Ok(state)) if state.ghost_limit > MOST_GHOSTS => Ok(TOO_LARGE),
-        (Err(3), Ok(_)) if is_negative_zero(settings.small_ratio) => Ok(NEGATIVE_ZERO),
-        (Err(4), Ok(_)) if is_negative_zero(settings.ghost_ratio) => Ok(NEGATIVE_ZERO),
-        (Ok(()), Ok(state)) => {
-            Err(format!("{settings}: the limits differ\n ours\n{}\n original\n{state}", store::read(store)?))
-        },
         (ours, original) => Err(format!("{settings}: ours {ours:?}, original {original:?}")),
     }
 }
@@ -92,8 +94,8 @@ fn refusal_for(error: &ConfigError) -> u8 {
     }
 }
 
-fn is_negative_zero(ratio: f64) -> bool {
-    ratio == 0.0 && ratio.is_sign_negative()
+fn has_negative_zero(settings: Settings) -> bool {
+    [settings.small_ratio, settings.ghost_ratio].iter().any(|ratio| *ratio == 0.0 && ratio.is_sign_negative())
 }
 
 /// Prints how often each outcome came up. The error names one that never did.

@@ -43,7 +43,8 @@ pub enum Read {
     Bad,
 }
 
-// Whether x is no ratio: a NaN, an infinity, or below zero. -0.0 is not below 0.0, and a NaN is below nothing.
+// Whether x is no ratio: a NaN, an infinity, or below zero. -0.0 is not below 0.0, and a NaN is below nothing,
+// the infinity 1.0 / 0.0 included.
 fn bad_ratio(x: f64) -> bool
     ensures { λ r. ⌜ r ≡ badRatio x ⌝ }
 {

@@ -1,8 +1,8 @@
 //! Bad input at scale: calls of the archive with stores of every kind of damage, requests cut and garbled, streams fed in
-//! pieces with carries that no feed left, every ratio and every buffer length around each limit, in buffers that end at
-//! unreadable pages. Each call's answer, replies, store and carry are held to what the rules give, worked out here from the bytes anew;
-//! a refused call must change nothing, no call may touch anything else, and a store that a call left must be accepted by
-//! the next.
+//! pieces with carries that no feed left, and every ratio and buffer length around each limit, in buffers that end at
+//! unreadable pages. Each call's answer, replies, store and carry are held to what the rules give, worked out here from the
+//! bytes anew; a refused call must change nothing, no call may touch anything else, and a store that a call left must be
+//! accepted by the next.
 
 mod calls;
 mod carry;

@@ -7,13 +7,7 @@ pub mod PassedLaws
 pub mod FindLaws
 pub mod AddLaws
 pub mod RemoveLaws
-pub mod CountLaws
-pub mod WalkedLaws
-pub mod VouchLaws
-pub mod ArrowLaws
 pub mod LiveLaws
 pub mod StoreLaws
-pub mod CheckLaws
-pub mod StandLaws
 pub mod SetUpLaws
 pub mod WriteLaws

@@ -45,8 +45,3 @@ pub record Gap (n : ℕ) (key link : ℕ → ℕ) (k h p : ℕ) : Type 0 where
   pub at : p ≡ last n front
   pub low : (y : ℕ) → In y front → key y < k
   pub high : (y : ℕ) (t : List ℕ) → back ≡ y ∷ t → k ≤ key y
-
--- a link m behind a node with the key k ends the chain, or leads to a node with a larger key
-pub record LeadsUp (n : ℕ) (key : ℕ → ℕ) (k m : ℕ) : Type 0 where
-  pub within : m ≤ n
-  pub above : m < n → k < key m

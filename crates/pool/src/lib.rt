@@ -86,5 +86,5 @@ pub fn check_pool(s: &[u8], z: Shape) -> bool
     if !lists::check_lists(s, z) {
         return false;
     }
-    key_index::check_index(s, z)
+    census::check_index(s, z)
 }

@@ -15,17 +15,17 @@ use Rattle.rules.specs.Verdict.{damaged}
 use Rattle.rules.specs.Carry.{Carry, opening, couldLeave, CarryAs, unfit, ReadsCarry}
 use Rattle.rules.specs.Feed.{glued, ended, Reached}
 use Rattle.sizing.specs.declared.Settings.{Settings}
 use Rattle.s3_fifo.specs.declared.Creation.{Creation}
 use Rattle.s3_fifo.specs.declared.Creation.the-variants.{Made}
 use Rattle.s3_fifo.specs.declared.Ran.{Ran}
 use Rattle.s3_fifo.specs.declared.Ran.the-variants.{Done}
 use Rattle.runs.specs.declared.Fed.{Fed}
 use Rattle.s3_fifo.specs.declared.Finish.{Finish}
 use Rattle.s3_fifo.specs.Calls.{ReadsAs, Created, Called}
 use Rattle.s3_fifo.specs.Feeds.{fedSays, finishSays, FedAs, verdictSays, FinishAs}
-use Rattle.s3_fifo.specs.Once.{OneCreation, OneCall, OneFeed}
-use Rattle.s3_fifo.specs.Streams.{NotTurned, Stream, OneStream, AsOneCall}
-use Rattle.s3_fifo.specs.Chains.{Chain, Kept, FullWithin}
+use Rattle.promises.specs.Once.{OneCreation, OneCall, OneFeed}
+use Rattle.promises.specs.Streams.{NotTurned, Stream, OneStream, AsOneCall}
+use Rattle.promises.specs.Chains.{Chain, Kept, FullWithin}
 
 pub record Promises : Type 0 where
   -- demands 1 and 2: a call has one outcome, and after a refusal no byte is another

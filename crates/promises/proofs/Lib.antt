@@ -1,0 +1,5 @@
+pub mod OnceLaws
+pub mod WentLaws
+pub mod ChainLaws
+pub mod StreamLaws
+pub mod PromisesLaws

@@ -1,0 +1,4 @@
+pub mod Once
+pub mod Chains
+pub mod Streams
+pub mod Promises

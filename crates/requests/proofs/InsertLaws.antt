@@ -25,9 +25,11 @@ use Rattle.wire.specs.declared.Reply.the-variants.{New}
 use Rattle.wire.specs.Wire.{told}
 use Rattle.evict.specs.declared.Evicted.{Evicted as Evicted·}
 use Rattle.evict.specs.Evicts.{pushedOf, Makes}
+use Rattle.handing.specs.Handing.{Comes}
+use Rattle.handing.proofs.ComesLaws.{comes-then}
 use Rattle.requests.specs.declared.Spoken.{Spoken}
-use Rattle.requests.specs.Answers.{spokenOf, Answers, Arrives, Comes}
-use Rattle.requests.proofs.KeyLaws.{answers, comes-then, Nowhere, nowhere-keyed, nowhere-ghost, nowhere-absent}
+use Rattle.requests.specs.Answers.{spokenOf, Answers, Arrives}
+use Rattle.requests.proofs.KeyLaws.{answers, Nowhere, nowhere-keyed, nowhere-ghost, nowhere-absent}
 
 -- ---- room is made
 

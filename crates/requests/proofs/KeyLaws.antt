@@ -5,8 +5,8 @@ use mathlib.Core.List.{List, [], _∷_}
 use Prim.Native.Nat.{ℕ, _+_, _<_, min}
 use native.Mathlib.Omega.{arith}
 use Rattle.nodes.specs.declared.Shape.{Shape}
-use Rattle.rules.specs.State.{Entry, State, maxFreq, withFreq, raise, revalue, putAt, keyed, place, nowhere}
-use Rattle.rules.specs.Records.{Request, GT, PK, RM, IN, Reply, MI, HI, RE, GO, Peeks, Outcome, says}
+use Rattle.rules.specs.State.{Entry, maxFreq, withFreq, raise, revalue, putAt, keyed, place, nowhere}
+use Rattle.rules.specs.Records.{Request, GT, PK, RM, IN, MI, HI, RE, GO, Peeks, Outcome, says}
 use Rattle.rules.specs.Requests.{apply, onGet, onPeek, onRemove, onInsert}
 use Rattle.rules.proofs.StateLaws.{place-law}
 use Rattle.rules.proofs.EngineLaws.{place-none}
@@ -14,32 +14,20 @@ use Rattle.store.specs.declared.QueueKind.{QueueKind}
 use Rattle.store.specs.declared.Entry.{Entry as Entry·}
 use Rattle.store.specs.declared.Lookup.{Lookup}
 use Rattle.store.specs.declared.Lookup.the-variants.{Resident, Ghost, Absent}
-use Rattle.store.specs.Holds.{stateIn, Keeps, Held, Becomes}
+use Rattle.store.specs.Holds.{stateIn, Held, Becomes}
 use Rattle.store.specs.Entries.{entryOf, GetsEntry}
 use Rattle.store.specs.Seats.{queueKind, FreqSet, ValueReplaced, EntryRemoved}
 use Rattle.store.specs.Looks.{Looks}
-use Rattle.store.proofs.KeepsLaws.{seat-node, seat-entry, becomes-then}
+use Rattle.store.proofs.KeepsLaws.{seat-node, seat-entry}
 use Rattle.wire.specs.declared.Reply.the-variants.{Miss, Hit, Replaced, Gone}
+use Rattle.handing.proofs.ComesLaws.{becomes-same}
 use Rattle.requests.specs.declared.Spoken.{Spoken}
-use Rattle.requests.specs.Answers.{spokenOf, alone, Answers, Comes}
+use Rattle.requests.specs.Answers.{spokenOf, alone, Answers}
 
 -- an answer, from what the rules come to
 pub answers : {z : Shape} {s s′ : List ℕ} {q : Request} {a : Spoken} (o : Outcome) → apply (stateIn z s) q ≡ o → Becomes z s s′ (o .state)
     → spokenOf a ≡ o .replies → (Peeks q → s′ ≡ s) → Answers z s s′ q a
 answers o e b r u = record { becomes = rw e b; replies = rw e r; untouched = u }
-
--- nothing changes
-pub becomes-same : {z : Shape} {s : List ℕ} → Keeps z s → Becomes z s s (stateIn z s)
-becomes-same k = record { keeps = k; state = refl; rest = refl }
-
--- a part of a request: from what the rules come to, and after a change of the state
-module _ {z : Shape} {s : List ℕ} where
-  pub comes-as : {s′ : List ℕ} {o p : Outcome} {l : List Reply} → o ≡ p → Comes z s s′ p l → Comes z s s′ o l
-  comes-as e c = rw e c
-
-  pub comes-then : {s₁ s₂ : List ℕ} {τ : State} {l : List Reply} (f : State → Outcome) → Becomes z s s₁ τ → Comes z s₁ s₂ (f (stateIn z s₁)) l
-      → Comes z s s₂ (f τ) l
-  comes-then f b c = let d = rw (b .state) at c in record { becomes = becomes-then b (d .becomes); replies = d .replies }
 
 -- ---- a key that is not resident
 

@@ -1,17 +1,14 @@
 // The requests on the store (RULES 5): lookup, peek, remove, insert, evict_one and clear, each with the replies that the rules
 // give it. A key is looked up once a request. No request fails on a store that holds a sound state, and no number stands for "none".
 ghost use mathlib.Core.Path.{_≡_};
-ghost use mathlib.Core.List.{[], _∷_};
-ghost use Prim.Native.Nat.{_+_, _≤_, _<_, min};
-ghost use lib.ListN.{length};
-ghost use Rattle.rules.specs.State.{maxFreq, queueOf};
+ghost use Prim.Native.Nat.{_+_, _<_, min};
+ghost use Rattle.rules.specs.State.{maxFreq};
 ghost use Rattle.rules.specs.Records.{Request};
-ghost use Rattle.store.specs.Holds.{stateIn, Keeps, Held};
+ghost use Rattle.store.specs.Holds.{Held};
 ghost use Rattle.store.specs.Seats.{queueKind};
 ghost use Rattle.store.specs.Looks.{Lacks};
-ghost use Rattle.wire.specs.Wire.{asked, told};
-ghost use Rattle.requests.specs.Answers.{alone, Answers, Comes, Arrives, Starts, firstOf, PopsOut, secondOf, Drained};
-use evict::Popped;
+ghost use Rattle.wire.specs.Wire.{asked};
+ghost use Rattle.requests.specs.Answers.{alone, Answers, Arrives};
 use evict::Pushed;
 use rules::GuestBlock;
 use rules::PhysicalBlock;
@@ -24,12 +21,6 @@ use wire::Reply;
 pub struct Spoken {
     pub pushed: Pushed,
     pub closing: Reply,
-}
-
-// What one of evict_one's own pops does: the pair is handed out, or it went back to Main's head.
-enum Handing {
-    Out(GuestBlock, PhysicalBlock),
-    Back,
 }
 
 // The answer where no pair was pushed out.
@@ -140,68 +131,6 @@ fn insert(s: &mut [u8], z: Shape, k: GuestBlock, v: PhysicalBlock) -> Spoken
     }
 }
 
-// One of evict_one's own pops, from a queue that is not empty: a pair that leaves is handed out and becomes no ghost.
-fn pop_out(s: &mut [u8], z: Shape, q: QueueKind) -> Handing
-    requires { ⌜ Held z (now s) × (1 ≤ length (queueOf (queueKind q) (stateIn z (now s)))) ⌝ }
-    ensures { λ r. ⌜ PopsOut z (now (s .entry)) (now (s .exit)) (queueKind q) r ⌝ }
-{
-    let popped = evict::pop_tail(s, z, q);
-    match popped {
-        Popped::Back => Handing::Back,
-        Popped::Cold(x, k, v) => {
-            store::remove_at(s, z, q, x);
-            Handing::Out(k, v)
-        }
-    }
-}
-
-// The second pop, from Main, which has the entry that the first one sent back.
-fn second(s: &mut [u8], z: Shape) -> Reply
-    requires { ⌜ Held z (now s) × (1 ≤ length (stateIn z (now s) .main)) ⌝ }
-    ensures { λ r. ⌜ Comes z (now (s .entry)) (now (s .exit)) (secondOf (stateIn z (now (s .entry)))) (told r ∷ []) ⌝ }
-{
-    let handing = pop_out(s, z, QueueKind::Main);
-    match handing {
-        Handing::Out(k, v) => Reply::Handed(k, v),
-        Handing::Back => Reply::Miss,
-    }
-}
-
-// The first pop, from a queue that is not empty, and the second where the first one hands nothing out.
-fn first(s: &mut [u8], z: Shape, q: QueueKind) -> Reply
-    requires { ⌜ Held z (now s) × Starts z (now s) (queueKind q) × (1 ≤ length (queueOf (queueKind q) (stateIn z (now s)))) ⌝ }
-    ensures { λ r. ⌜ Comes z (now (s .entry)) (now (s .exit)) (firstOf (stateIn z (now (s .entry)))) (told r ∷ []) ⌝ }
-{
-    let handing = pop_out(s, z, q);
-    match handing {
-        Handing::Out(k, v) => Reply::Handed(k, v),
-        Handing::Back => second(s, z),
-    }
-}
-
-// The queue of the first pop: Small unless it is empty.
-fn first_queue(s: &[u8], z: Shape) -> QueueKind
-    requires { ⌜ Held z (now s) ⌝ }
-    ensures { λ r. ⌜ Starts z (now (s .entry)) (queueKind r) ⌝ }
-{
-    if store::len_of(s, z, QueueKind::Small) == 0 {
-        return QueueKind::Main;
-    }
-    QueueKind::Small
-}
-
-// What evict_one hands out after eviction, by one or two pops.
-fn hand_out(s: &mut [u8], z: Shape) -> Reply
-    requires { ⌜ Held z (now s) ⌝ }
-    ensures { λ r. ⌜ Comes z (now (s .entry)) (now (s .exit)) (firstOf (stateIn z (now (s .entry)))) (told r ∷ []) ⌝ }
-{
-    let q = first_queue(s, z);
-    if store::len_of(s, z, q) == 0 {
-        return Reply::Miss;
-    }
-    first(s, z, q)
-}
-
 // evict_one: eviction where the cache is full, and then one or two pops of its own.
 fn evict_one(s: &mut [u8], z: Shape) -> Spoken
     requires { ⌜ Held z (now s) ⌝ }
@@ -209,19 +138,8 @@ fn evict_one(s: &mut [u8], z: Shape) -> Spoken
 {
     let evicted = evict::evict_if_needed(s, z);
     let pushed = evicted.pushed;
-    let closing = hand_out(s, z);
+    let closing = handing::hand_out(s, z);
     Spoken { pushed, closing }
-}
-
-// Takes all entries out of a queue.
-fn drain(s: &mut [u8], z: Shape, q: QueueKind)
-    requires { ⌜ Keeps z (now s) ⌝ }
-    ensures { λ _. ⌜ Drained z (now (s .entry)) (now (s .exit)) (queueKind q) ⌝ }
-{
-    while 0 < store::len_of(s, z, q) {
-        let x = store::tail_of(s, z, q);
-        store::remove_at(s, z, q, x);
-    }
 }
 
 // Clear: ghosts and queues become empty, node by node, so that it costs what is there.
@@ -230,8 +148,8 @@ fn clear(s: &mut [u8], z: Shape) -> Spoken
     ensures { λ r. ⌜ Answers z (now (s .entry)) (now (s .exit)) Request.CL r ⌝ }
 {
     ghost_list::clear(s, z);
-    drain(s, z, QueueKind::Small);
-    drain(s, z, QueueKind::Main);
+    handing::drain(s, z, QueueKind::Small);
+    handing::drain(s, z, QueueKind::Main);
     alone(Reply::Cleared)
 }
 

@@ -1,11 +1,11 @@
--- `requests::drain` meets its contract.
+-- `handing::drain` meets its contract.
 -- Assumes nothing.
 use borrow.Author.Needs.{needs}
 use Rattle.store.proofs.LookLaws.{tail-seated}
-use Rattle.requests.proofs.ClearLaws.{Draining, left, draining-start, draining-next, draining-less, draining-end}
+use Rattle.handing.proofs.DrainLaws.{Draining, left, draining-start, draining-next, draining-less, draining-end}
 use Rattle.store.specs.Seats.{queueKind}
-use Rattle.requests.proofs.drain.Statement.{statement}
-use Rattle.requests.proofs.drain.Tie as tie
+use Rattle.handing.proofs.drain.Statement.{statement}
+use Rattle.handing.proofs.drain.Tie as tie
 
 abbrev Inv-loop : tie.InvT-loop
 Inv-loop s₀ z q s = Draining z s₀ s (queueKind q)

@@ -1,9 +1,9 @@
--- `requests::second` meets its contract.
+-- `handing::second` meets its contract.
 -- Assumes nothing.
 use borrow.Author.Needs.{needs}
-use Rattle.requests.proofs.EvictOneLaws.{second-out, second-back}
-use Rattle.requests.proofs.second.Statement.{statement}
-use Rattle.requests.proofs.second.Tie as tie
+use Rattle.handing.proofs.HandOutLaws.{second-out, second-back}
+use Rattle.handing.proofs.second.Statement.{statement}
+use Rattle.handing.proofs.second.Tie as tie
 
 pub second-spec : {M : Type 1} → statement M
 second-spec =

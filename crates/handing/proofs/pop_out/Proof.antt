@@ -1,10 +1,10 @@
--- `requests::pop_out` meets its contract.
+-- `handing::pop_out` meets its contract.
 -- Assumes nothing.
 use borrow.Author.Needs.{needs}
 use Rattle.evict.proofs.PopLaws.{cold-keeps, cold-seated}
-use Rattle.requests.proofs.EvictOneLaws.{out-back, out-cold}
-use Rattle.requests.proofs.pop_out.Statement.{statement}
-use Rattle.requests.proofs.pop_out.Tie as tie
+use Rattle.handing.proofs.HandOutLaws.{out-back, out-cold}
+use Rattle.handing.proofs.pop_out.Statement.{statement}
+use Rattle.handing.proofs.pop_out.Tie as tie
 
 pub pop-out-spec : {M : Type 1} → statement M
 pop-out-spec =

@@ -1,9 +1,9 @@
--- `requests::first` meets its contract.
+-- `handing::first` meets its contract.
 -- Assumes nothing.
 use borrow.Author.Needs.{needs}
-use Rattle.requests.proofs.EvictOneLaws.{first-out, first-back, back-held, back-some}
-use Rattle.requests.proofs.first.Statement.{statement}
-use Rattle.requests.proofs.first.Tie as tie
+use Rattle.handing.proofs.HandOutLaws.{first-out, first-back, back-held, back-some}
+use Rattle.handing.proofs.first.Statement.{statement}
+use Rattle.handing.proofs.first.Tie as tie
 
 pub first-spec : {M : Type 1} → statement M
 first-spec =

@@ -1,9 +1,9 @@
--- `requests::hand_out` meets its contract.
+-- `handing::hand_out` meets its contract.
 -- Assumes nothing.
 use borrow.Author.Needs.{needs}
-use Rattle.requests.proofs.EvictOneLaws.{first-none}
-use Rattle.requests.proofs.hand_out.Statement.{statement}
-use Rattle.requests.proofs.hand_out.Tie as tie
+use Rattle.handing.proofs.HandOutLaws.{first-none}
+use Rattle.handing.proofs.hand_out.Statement.{statement}
+use Rattle.handing.proofs.hand_out.Tie as tie
 
 pub hand-out-spec : {M : Type 1} → statement M
 hand-out-spec =

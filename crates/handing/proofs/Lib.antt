@@ -1,0 +1,3 @@
+pub mod ComesLaws
+pub mod HandOutLaws
+pub mod DrainLaws

@@ -1,7 +1,7 @@
 -- What the calls promise, on one page: start here. `promises` (proofs/PromisesLaws.antt) is the theorem that gives it.
--- `Created`, `Called` (Calls.antt), `FedAs` and `FinishAs` (Feeds.antt) are the contracts of `S3FifoCache::create`, `run`, `feed` and `finish`, which ask
--- nothing of their caller: whatever bytes are lent, a call ends, and they hold of its outcome. So what is said here of every outcome that satisfies them is
--- said of the calls.
+-- `Created`, `Called` (crates/s3_fifo/specs/Calls.antt), `FedAs` and `FinishAs` (Feeds.antt there) are the contracts of `S3FifoCache::create`, `run`, `feed`
+-- and `finish`, which ask nothing of their caller: whatever bytes are lent, a call ends, and they hold of its outcome. So what is said here of every
+-- outcome that satisfies them is said of the calls.
 -- Assumes nothing.
 use mathlib.Core.Path.{_≡_}
 use mathlib.Core.Bool.{true}

@@ -29,14 +29,14 @@ use Rattle.runs.specs.declared.Fed.{Fed}
 use Rattle.runs.specs.declared.Fed.the-variants.{Done as Given, Stopped, Refused as Away}
 use Rattle.s3_fifo.specs.declared.Finish.{Finish}
 use Rattle.s3_fifo.specs.Feeds.{fedSays, finishSays, repliesIn, carriedOut, verdictSays}
-use Rattle.promises.specs.Streams.{NotTurned, Stream, over, feeds}
+use Rattle.s3_fifo.specs.Streams.{NotTurned, Stream, over, feeds}
 use Rattle.s3_fifo.specs.Calls.{Said, gave, halted, turned, createdSays, ranSays, Follows, Created, Called}
-use Rattle.promises.specs.Once.{Agrees}
-use Rattle.promises.specs.Chains.{Chain, start, accepted, refused, fed}
-use Rattle.promises.proofs.ChainLaws.{created-intact, called-intact}
-use Rattle.promises.proofs.StreamLaws.{cut-anywhere, as-one-call, finish-says}
-use Rattle.promises.proofs.WentLaws.{fed-intact, fed-fit}
-use Rattle.promises.proofs.OnceLaws as once
+use Rattle.s3_fifo.specs.Once.{Agrees}
+use Rattle.s3_fifo.specs.Chains.{Chain, start, accepted, refused, fed}
+use Rattle.s3_fifo.proofs.ChainLaws.{created-intact, called-intact}
+use Rattle.s3_fifo.proofs.StreamLaws.{cut-anywhere, as-one-call, finish-says}
+use Rattle.s3_fifo.proofs.WentLaws.{fed-intact, fed-fit}
+use Rattle.s3_fifo.proofs.OnceLaws as once
 use Rattle.mapcache.specs.Codes.{codeOf, detailIn, CreatedAs, CalledAs, FedWith, FinishedWith}
 use Rattle.mapcache.specs.Exported.{Negative, OneOutcome, nine, OneFed, Streamed, over as over·, feeds as feeds·, Exported}
 

@@ -20,9 +20,9 @@ use Rattle.s3_fifo.specs.declared.Creation.{Creation}
 use Rattle.s3_fifo.specs.declared.Ran.{Ran}
 use Rattle.s3_fifo.specs.Calls.{Said, halted, createdSays, ranSays, ReadsAs, Created}
 use Rattle.s3_fifo.specs.Feeds.{fedSays, repliesIn, carriedOut, verdictSays}
-use Rattle.promises.specs.Once.{Agrees}
-use Rattle.promises.specs.Streams.{OneStream, AsOneCall}
-use Rattle.promises.specs.Chains.{Chain}
+use Rattle.s3_fifo.specs.Once.{Agrees}
+use Rattle.s3_fifo.specs.Streams.{OneStream, AsOneCall}
+use Rattle.s3_fifo.specs.Chains.{Chain}
 use Rattle.mapcache.specs.Codes.{codeOf, detailIn, CreatedAs, CalledAs, FedWith, FinishedWith}
 
 -- below 0: a refusal

@@ -26,7 +26,7 @@ use Rattle.s3_fifo.specs.declared.Creation.the-variants.{Made, Refused as NotMa
 use Rattle.s3_fifo.specs.declared.Ran.{Ran}
 use Rattle.s3_fifo.specs.declared.Ran.the-variants.{Done, Refused}
 use Rattle.s3_fifo.specs.Calls.{gave, turned, createdSays, ranSays, Settled, Follows}
-use Rattle.s3_fifo.proofs.ReadsLaws.{reads-once}
+use Rattle.s3_fifo.proofs.OnceLaws.{reads-once}
 use Rattle.store.specs.Holds.{Holds}
 use Rattle.recorded.specs.declared.Told.{Told}
 use Rattle.recorded.specs.Told.{toldOf}

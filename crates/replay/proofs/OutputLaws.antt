@@ -29,7 +29,7 @@ use Rattle.s3_fifo.specs.declared.Creation.the-variants.{Made, Refused}
 use Rattle.s3_fifo.specs.declared.Ran.{Ran}
 use Rattle.s3_fifo.specs.declared.Ran.the-variants.{Done, Refused as NotRun}
 use Rattle.s3_fifo.specs.Calls.{Said, gave, turned, createdSays, ranSays, Settled, Follows, Created, Called}
-use Rattle.s3_fifo.proofs.ReadsLaws.{reads-once}
+use Rattle.s3_fifo.proofs.OnceLaws.{reads-once}
 use Rattle.replay.specs.Output.{noRecord, noBytes, printed, outputFor, Finished}
 
 -- ---- the record of a refusal

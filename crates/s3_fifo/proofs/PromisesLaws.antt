@@ -1,11 +1,11 @@
 -- The theorem behind crates/s3_fifo/specs/Promises.antt.
 -- Assumes nothing.
 use Rattle.rules.proofs.ReachLaws.{could-reach, reach-could}
-use Rattle.promises.specs.Promises.{Promises}
-use Rattle.promises.proofs.OnceLaws.{created-once, called-once, fed-once, finished-once}
-use Rattle.promises.proofs.WentLaws.{fed-intact, fed-fit}
-use Rattle.promises.proofs.StreamLaws.{cut-anywhere, as-one-call, finish-says}
-use Rattle.promises.proofs.ChainLaws.{created-intact, called-intact, chain-keeps, full-within}
+use Rattle.s3_fifo.specs.Promises.{Promises}
+use Rattle.s3_fifo.proofs.OnceLaws.{created-once, called-once, fed-once, finished-once}
+use Rattle.s3_fifo.proofs.WentLaws.{fed-intact, fed-fit}
+use Rattle.s3_fifo.proofs.StreamLaws.{cut-anywhere, as-one-call, finish-says}
+use Rattle.s3_fifo.proofs.ChainLaws.{created-intact, called-intact, chain-keeps, full-within}
 
 pub promises : Promises
 promises =

@@ -17,15 +17,15 @@ use Rattle.rules.proofs.CarriedLaws.{carried-once, carry-surplus}
 use Rattle.rules.proofs.ReachLaws.{finish-is}
 use Rattle.rules.proofs.StreamLaws.{feed-all, any-cutting}
 use Rattle.store.specs.Holds.{Holds}
 use Rattle.s3_fifo.specs.declared.Ran.the-variants.{Done}
 use Rattle.s3_fifo.specs.declared.Finish.{Finish}
 use Rattle.s3_fifo.specs.declared.Finish.the-variants.{Complete}
 use Rattle.s3_fifo.specs.Calls.{ReadsAs, Called}
 use Rattle.s3_fifo.specs.Feeds.{finishSays, verdictSays, FinishAs}
-use Rattle.promises.specs.Streams.{Stream, over, feeds, OneStream, AsOneCall}
-use Rattle.promises.proofs.OnceLaws.{alike-self, alike-holds, finish-says-once}
-use Rattle.promises.proofs.WentLaws.{goes-on, goes-lent}
-use Rattle.promises.proofs.ChainLaws.{whole-served}
+use Rattle.s3_fifo.specs.Streams.{Stream, over, feeds, OneStream, AsOneCall}
+use Rattle.s3_fifo.proofs.OnceLaws.{alike-self, alike-holds, finish-says-once}
+use Rattle.s3_fifo.proofs.WentLaws.{goes-on, goes-lent}
+use Rattle.s3_fifo.proofs.ChainLaws.{whole-served}
 
 -- ---- what a stream gives and leaves
 

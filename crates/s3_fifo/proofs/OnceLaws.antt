@@ -9,7 +9,7 @@ use native.Mathlib.Omega.{arith}
 use lib.ListN.{length, drop}
 use Rattle.nodes.specs.Nodes.{used}
 use Rattle.rules.specs.State.{State}
-use Rattle.rules.specs.Verdict.{Verdict, refused, done, create, Reads, call}
+use Rattle.rules.specs.Verdict.{Verdict, refused, done, create, Reads, short, damaged, reads, call}
 use Rattle.sizing.specs.declared.Settings.{Settings}
 use Rattle.rules.specs.Carry.{Carry, Carried, ReadsCarry}
 use Rattle.rules.specs.Feed.{Onward, feed, finishOn}
@@ -17,18 +17,17 @@ use Rattle.rules.proofs.CarriedLaws.{carried-once}
 use Rattle.rules.proofs.RefusalsLaws.{turnedBy, turned-back}
 use Rattle.store.specs.Holds.{shapeFor, Holds}
 use Rattle.store.proofs.HoldsLaws.{holds-once}
-use Rattle.s3_fifo.proofs.ReadsLaws.{reads-once}
 use Rattle.s3_fifo.specs.declared.Creation.{Creation}
 use Rattle.s3_fifo.specs.declared.Creation.the-variants.{Made, Refused as NotMade}
 use Rattle.s3_fifo.specs.declared.Ran.{Ran}
 use Rattle.s3_fifo.specs.declared.Ran.the-variants.{Done, Refused}
 use Rattle.runs.specs.declared.Fed.{Fed}
 use Rattle.runs.specs.declared.Fed.the-variants.{Done as Given, Stopped, Refused as Away}
 use Rattle.s3_fifo.specs.declared.Finish.{Finish}
 use Rattle.s3_fifo.specs.declared.Finish.the-variants.{Complete, Refused as Broken}
 use Rattle.s3_fifo.specs.Feeds.{fedSays, finishSays, saidWith, FollowsFeed, FedAs, verdictSays, FinishAs}
 use Rattle.s3_fifo.specs.Calls.{Said, gave, halted, turned, createdSays, ranSays, ReadsAs, Settled, Follows, Created, Called}
-use Rattle.promises.specs.Once.{SameState, Agrees, OneCreation, OneCall, OneFeed}
+use Rattle.s3_fifo.specs.Once.{SameState, Agrees, OneCreation, OneCall, OneFeed}
 
 -- ---- the answer is known by what it says
 
@@ -58,6 +57,19 @@ created-back (NotMade t) = ap NotMade (turned-back t)
 
 pub creation-once : (r t : Creation) → createdSays r ≡ createdSays t → r ≡ t
 creation-once r t e = sym (created-back r) ∙ ap createdBy e ∙ created-back t
+
+-- ---- a store reads as one thing
+
+pub reads-once : (s : List ℕ) (a b : Reads) → ReadsAs s a → ReadsAs s b → a ≡ b
+reads-once s short short h g = refl
+reads-once s short damaged h g = absurd (omega (arith, h, g .0))
+reads-once s short (reads σ) h g = absurd (omega (arith, h, g .0))
+reads-once s damaged short h g = absurd (omega (arith, g, h .0))
+reads-once s damaged damaged h g = refl
+reads-once s damaged (reads σ) h g = absurd (h .1 σ (g .1))
+reads-once s (reads σ) short h g = absurd (omega (arith, g, h .0))
+reads-once s (reads σ) damaged h g = absurd (g .1 σ (h .1))
+reads-once s (reads σ) (reads τ) h g = ap reads (holds-once (h .1) (g .1))
 
 -- ---- two stores that nobody can tell apart by what they hold
 

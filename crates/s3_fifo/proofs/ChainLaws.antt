@@ -36,16 +36,15 @@ use Rattle.rules.proofs.RepliesLaws.{reading-once, history-read}
 use Rattle.sizing.specs.declared.Settings.{Settings}
 use Rattle.sizing.proofs.AcceptedLaws.{accepted-fine, accepted-limits}
 use Rattle.store.specs.Holds.{Holds}
 use Rattle.s3_fifo.specs.declared.Creation.the-variants.{Made}
 use Rattle.s3_fifo.specs.declared.Ran.the-variants.{Done}
 use Rattle.runs.specs.declared.Fed.{Fed}
 use Rattle.s3_fifo.specs.Feeds.{fedSays, repliesIn, carriedOut, FollowsFeed, FedAs}
-use Rattle.promises.specs.Streams.{NotTurned}
+use Rattle.s3_fifo.specs.Streams.{NotTurned}
 use Rattle.s3_fifo.specs.Calls.{Said, gave, halted, turned, ranSays, ReadsAs, Follows, Created, Called}
-use Rattle.promises.specs.Chains.{limitsMade, Chain, start, accepted, refused, fed, Grown, Kept, FullWithin}
-use Rattle.s3_fifo.proofs.ReadsLaws.{reads-once}
-use Rattle.promises.proofs.OnceLaws.{gave-not, goes-not}
-use Rattle.promises.proofs.WentLaws.{goes-on, goes-lent}
+use Rattle.s3_fifo.specs.Chains.{limitsMade, Chain, start, accepted, refused, fed, Grown, Kept, FullWithin}
+use Rattle.s3_fifo.proofs.OnceLaws.{gave-not, goes-not, reads-once}
+use Rattle.s3_fifo.proofs.WentLaws.{goes-on, goes-lent}
 
 -- ---- from an answer to the verdict's last word
 

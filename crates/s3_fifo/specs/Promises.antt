@@ -1,7 +1,7 @@
 -- What the calls promise, on one page: start here. `promises` (proofs/PromisesLaws.antt) is the theorem that gives it.
--- `Created`, `Called` (crates/s3_fifo/specs/Calls.antt), `FedAs` and `FinishAs` (Feeds.antt there) are the contracts of `S3FifoCache::create`, `run`, `feed`
--- and `finish`, which ask nothing of their caller: whatever bytes are lent, a call ends, and they hold of its outcome. So what is said here of every
--- outcome that satisfies them is said of the calls.
+-- `Created`, `Called` (Calls.antt), `FedAs` and `FinishAs` (Feeds.antt) are the contracts of `S3FifoCache::create`, `run`, `feed` and `finish`, which ask
+-- nothing of their caller: whatever bytes are lent, a call ends, and they hold of its outcome. So what is said here of every outcome that satisfies them is
+-- said of the calls.
 -- Assumes nothing.
 use mathlib.Core.Path.{_≡_}
 use mathlib.Core.Bool.{true}
@@ -15,17 +15,17 @@ use Rattle.rules.specs.Verdict.{damaged}
 use Rattle.rules.specs.Carry.{Carry, opening, couldLeave, CarryAs, unfit, ReadsCarry}
 use Rattle.rules.specs.Feed.{glued, ended, Reached}
 use Rattle.sizing.specs.declared.Settings.{Settings}
 use Rattle.s3_fifo.specs.declared.Creation.{Creation}
 use Rattle.s3_fifo.specs.declared.Creation.the-variants.{Made}
 use Rattle.s3_fifo.specs.declared.Ran.{Ran}
 use Rattle.s3_fifo.specs.declared.Ran.the-variants.{Done}
 use Rattle.runs.specs.declared.Fed.{Fed}
 use Rattle.s3_fifo.specs.declared.Finish.{Finish}
 use Rattle.s3_fifo.specs.Calls.{ReadsAs, Created, Called}
 use Rattle.s3_fifo.specs.Feeds.{fedSays, finishSays, FedAs, verdictSays, FinishAs}
-use Rattle.promises.specs.Once.{OneCreation, OneCall, OneFeed}
-use Rattle.promises.specs.Streams.{NotTurned, Stream, OneStream, AsOneCall}
-use Rattle.promises.specs.Chains.{Chain, Kept, FullWithin}
+use Rattle.s3_fifo.specs.Once.{OneCreation, OneCall, OneFeed}
+use Rattle.s3_fifo.specs.Streams.{NotTurned, Stream, OneStream, AsOneCall}
+use Rattle.s3_fifo.specs.Chains.{Chain, Kept, FullWithin}
 
 pub record Promises : Type 0 where
   -- demands 1 and 2: a call has one outcome, and after a refusal no byte is another

@@ -8,11 +8,11 @@ use lib.ListN.{take}
 use Rattle.rules.specs.declared.Turned.the-variants.{BadRecord}
 use Rattle.rules.specs.Refusals.{numberOf}
 use Rattle.runs.specs.declared.Fed.{Fed}
 use Rattle.s3_fifo.specs.declared.Finish.{Finish}
 use Rattle.s3_fifo.specs.declared.Finish.the-variants.{Complete}
 use Rattle.s3_fifo.specs.Feeds.{fedSays, repliesIn, FedAs, FinishAs}
 use Rattle.s3_fifo.specs.Calls.{Said, gave, halted, turned}
-use Rattle.promises.specs.Once.{SameState}
+use Rattle.s3_fifo.specs.Once.{SameState}
 
 -- an answer to a feed that was not turned away by 6, 7, 8, 10 or 17; a stream that has stopped before gives 9
 abbrev pub NotTurned : Said → Type 0

@@ -20,10 +20,10 @@ use Rattle.rules.proofs.ReachLaws.{feed-could}
 use Rattle.rules.proofs.CarriedLaws.{carry-written}
 use Rattle.store.specs.Holds.{Holds}
 use Rattle.runs.specs.declared.Fed.{Fed}
 use Rattle.s3_fifo.specs.Calls.{Said, gave, halted, turned, ReadsAs}
 use Rattle.s3_fifo.specs.Feeds.{fedSays, repliesIn, saidWith, FollowsFeed, FedAs}
-use Rattle.promises.specs.Streams.{NotTurned}
-use Rattle.promises.proofs.OnceLaws.{fed-on}
+use Rattle.s3_fifo.specs.Streams.{NotTurned}
+use Rattle.s3_fifo.proofs.OnceLaws.{fed-on}
 
 -- an answer with so many reply bytes, by what is carried on
 said-count : (c : Carry) (m : ℕ) → repliesIn (saidWith c m) ≡ m

@@ -1,5 +1,0 @@
-pub mod OnceLaws
-pub mod WentLaws
-pub mod ChainLaws
-pub mod StreamLaws
-pub mod PromisesLaws

@@ -1,4 +1,0 @@
-pub mod Once
-pub mod Chains
-pub mod Streams
-pub mod Promises

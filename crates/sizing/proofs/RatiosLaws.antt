@@ -77,6 +77,11 @@ ratio-bits b h = elim (read-bits b) [
 
 -- ---- either zero
 
+-- as bits, 0 is 0.0, and the sign alone is -0.0
+pub zero-bits : (ofBits binary64 0 ≡ nought) × (ofBits binary64 (2 ^ 63) ≡ neg nought)
+unfolding ofBits neg
+zero-bits = (refl, refl)
+
 -- what is made of a product goes by its size
 nearest-mag : (p : Float) → nearest p ≡ nearest (mag p)
 unfolding nearest

@@ -18,9 +18,8 @@ use Rattle.nodes.specs.declared.Shape.{Shape}
 use Rattle.census.specs.declared.Census.{Census}
 use Rattle.census.specs.declared.Census.the-variants.{Count, Broken}
 use Rattle.key_index.specs.Index.{bucketOf}
-use Rattle.census.specs.Check.{LeadsUp}
 use Rattle.key_index.specs.Stored.{col, LiveIn, Indexes, headOf}
-use Rattle.census.specs.Check.{lives, EndOk, LinkOk}
+use Rattle.census.specs.Check.{lives, EndOk, LeadsUp, LinkOk}
 use Rattle.census.specs.Check.{CleanIn, CleanHas, WalkSays, Behind, Visits}
 use Rattle.census.proofs.WalkedLaws.{Walked, walked-start, walked-next, walked-done, walked-few, walked-good, walked-up}
 

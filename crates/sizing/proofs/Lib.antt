@@ -6,6 +6,7 @@ pub mod ProductsLaws
 pub mod CutLaws
 pub mod OrderLaws
 pub mod RatiosLaws
+pub mod ZerosLaws
 pub mod RecordLaws
 pub mod NearestLaws
 pub mod AcceptedLaws

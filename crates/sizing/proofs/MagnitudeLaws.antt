@@ -77,7 +77,7 @@ mag-units f s q k = go (ltb (q * 2 ^ k) (2 ^ (low f + suc (emax f))))
     go true = mag-odd (suc (prec f)) s q k (low f)
     go false = refl
 
-pub mag-round : (f : Format) (s : Bool) (a b : ℕ) → mag (round f s a b) ≡ round f false a b
+mag-round : (f : Format) (s : Bool) (a b : ℕ) → mag (round f s a b) ≡ round f false a b
 mag-round f s a b = ap mag (round-is f s a b) ∙ mag-units f s _ _ ∙ sym (round-is f false a b)
 
 pub rounded-no-nan : (f : Format) (x : Float) → Rounded f (mag x) → T (not (isNan x))

@@ -8,7 +8,7 @@ use lib.Ieee.{Float, binary64, ofBits}
 use lib.Ieee.Positive.{num, den, den-pos}
 use Rattle.rules.specs.Sizing.{halfUp, nearest, Nearest}
 use Rattle.sizing.proofs.RoundLaws.{is, only}
-use Rattle.sizing.specs.NearestBits.{negative, field, digits, units, endless, no-number, number, NearestBits}
+use Rattle.sizing.specs.NearestBits.{negative, field, full, digits, units, endless, no-number, number, NearestBits}
 use Rattle.sizing.proofs.PatternsLaws.{read-bits, nearest-value}
 
 -- 2c - 1 <= 2p < 2c + 1 holds at the rounding
@@ -21,7 +21,7 @@ pub nearest-only : (p : Float) (c : ℕ) → Nearest p c → c ≡ nearest p
 unfolding nearest
 nearest-only p c h = only (num p) (den p) c (h .low) (h .high)
 
-rounded : (b : ℕ) → field b < 2047 → nearest (ofBits binary64 b) ≡ halfUp (units (field b) (digits b)) (2 ^ 1074)
+rounded : (b : ℕ) → field b < full → nearest (ofBits binary64 b) ≡ halfUp (units (field b) (digits b)) (2 ^ 1074)
 rounded b h = elim (read-bits b) [
   | endless x e ↦ absurd (omega arith)
   | no-number x e ↦ absurd (omega arith)
@@ -29,10 +29,10 @@ rounded b h = elim (read-bits b) [
 ]
 
 -- the same with the number read from the bits
-pub nearest-bits : (b : ℕ) → field b < 2047 → NearestBits b (nearest (ofBits binary64 b))
+pub nearest-bits : (b : ℕ) → field b < full → NearestBits b (nearest (ofBits binary64 b))
 nearest-bits b h =
     let k = is (units (field b) (digits b)) (2 ^ 1074) (pow-pos 1074) in
     rw (rounded b h) (record { low = k .0; high = k .1 })
 
-pub nearest-bits-only : (b c : ℕ) → field b < 2047 → NearestBits b c → c ≡ nearest (ofBits binary64 b)
+pub nearest-bits-only : (b c : ℕ) → field b < full → NearestBits b c → c ≡ nearest (ofBits binary64 b)
 nearest-bits-only b c h k = only (units (field b) (digits b)) (2 ^ 1074) c (k .low) (k .high) ∙ sym (rounded b h)

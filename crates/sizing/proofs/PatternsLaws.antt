@@ -14,7 +14,7 @@ use lib.Ieee.Bits.{ofBits-toBits}
 use lib.Ieee.Exact.{HasValue, odd-sign}
 use Rattle.rules.specs.Sizing.{nearest, halfUp}
 use Rattle.sizing.specs.Cut.{cut}
-use Rattle.sizing.specs.NearestBits.{negative, field, digits, units, BitsRead, endless, no-number, number}
+use Rattle.sizing.specs.NearestBits.{negative, field, full, digits, units, BitsRead, endless, no-number, number}
 use Rattle.sizing.proofs.RoundLaws.{same, low, high, middle}
 
 -- ---- a pattern's fields, and the number that they stand for
@@ -22,9 +22,9 @@ use Rattle.sizing.proofs.RoundLaws.{same, low, high, middle}
 read : (s : Bool) (x t : ℕ) → x < 2048 → BitsRead s x t (ofFields binary64 s x t)
 unfolding ofFields
 read s zero t h = number (lit< tt) (simp mul-one at (odd-sign 53 s t 0 1074))
-read s (suc j) t h = go (eqb (suc j) 2047) (eqb→eq (suc j) 2047) (λ e. eq→eqb e) (eqb t 0)
+read s (suc j) t h = go (eqb (suc j) full) (eqb→eq (suc j) full) (λ e. eq→eqb e) (eqb t 0)
   where
-    go : (b : Bool) → (T b → suc j ≡ 2047) → (suc j ≡ 2047 → T b) → (z : Bool)
+    go : (b : Bool) → (T b → suc j ≡ full) → (suc j ≡ full → T b) → (z : Bool)
         → BitsRead s (suc j) t (cond b (cond z (inf s) nan) (odd 53 s (2 ^ 52 + t) j 1074))
     go true p q true = endless (p tt) refl
     go true p q false = no-number (p tt) refl

@@ -1,4 +1,4 @@
--- Which patterns of bits are no ratio's, and that a zero's sign makes no difference.
+-- Which patterns of bits are no ratio's.
 -- Assumes nothing.
 use mathlib.Core.Path.{_≡_, refl, sym, ap, _∙_}
 use mathlib.Core.Bool.{Bool, true, false, _&&_, true≢false, false≢true}
@@ -9,17 +9,13 @@ use native.Mathlib.Decide.{ℕ-discrete, decLt}
 use lib.Dec.{ltb}
 use lib.Arith.{lt-of-le-ne}
 use lib.Pow.{pow-pos}
-use lib.Ieee.{Float, nan, inf, fin, binary64, up, down, unlike, neg, mul, lt, ofBits}
+use lib.Ieee.{Float, nan, inf, fin, binary64, up, down, lt, ofBits}
 use lib.Ieee.Fits.{down-pos}
 use lib.Ieee.Exact.{HasValue}
-use lib.Ieee.Scale.{finite}
 use borrow.Author.Tests.{eq-eqb, ne-eqb, lt-ltb, le-ltb, le-leb, lt-leb}
-use Rattle.rules.specs.Sizing.{nought, badRatio, product, nearest, sizingUpTo}
-use Rattle.sizing.specs.NearestBits.{negative, field, digits, units, endless, no-number, number, noRatio}
-use Rattle.sizing.proofs.MagnitudeLaws.{mag, mag-round}
+use Rattle.rules.specs.Sizing.{badRatio}
+use Rattle.sizing.specs.NearestBits.{signBit, negative, field, full, digits, units, endless, no-number, number, noRatio}
 use Rattle.sizing.proofs.PatternsLaws.{read-bits}
-
--- ---- by the bits
 
 -- a size is 0 in one measure exactly where it is in the other
 some-alike : (a b c d : ℕ) → 0 < b → 0 < c → a * b ≡ d * c → ltb 0 a ≡ ltb 0 d
@@ -48,71 +44,29 @@ no-units zero t h g = g
 no-units (suc j) t h g = absurd (omega arith)
 
 -- of a number: it is below zero where its bits are above those of -0.0
-below-zero : (b : ℕ) → b < 2 ^ 64 → (negative b && ltb 0 (units (field b) (digits b))) ≡ ltb (2 ^ 63) b
-below-zero b h = above (decLt (2 ^ 63) b)
+below-zero : (b : ℕ) → b < 2 ^ 64 → (negative b && ltb 0 (units (field b) (digits b))) ≡ ltb signBit b
+below-zero b h = above (decLt signBit b)
   where
     none : (s : Bool) → (s && false) ≡ false
     none true = refl
     none false = refl
 
-    at-most : Dec (b ≡ 2 ^ 63) → b ≤ 2 ^ 63 → (negative b && ltb 0 (units (field b) (digits b))) ≡ false
+    at-most : Dec (b ≡ signBit) → b ≤ signBit → (negative b && ltb 0 (units (field b) (digits b))) ≡ false
     at-most (yes e) l = simp (no-units (field b) (digits b) (omega arith) (omega arith)) (none (negative b))
-    at-most (no n) l = simp (lt-leb (2 ^ 63) b (lt-of-le-ne l n))
+    at-most (no n) l = simp (lt-leb signBit b (lt-of-le-ne l n))
 
-    above : Dec (2 ^ 63 < b) → (negative b && ltb 0 (units (field b) (digits b))) ≡ ltb (2 ^ 63) b
+    above : Dec (signBit < b) → (negative b && ltb 0 (units (field b) (digits b))) ≡ ltb signBit b
     above (yes l) =
-        simp (le-leb (2 ^ 63) b (omega arith), some-units (field b) (digits b) (omega arith), lt-ltb (2 ^ 63) b l)
-    above (no n) = at-most (ℕ-discrete b (2 ^ 63)) (omega arith) ∙ sym (le-ltb (2 ^ 63) b (omega arith))
+        simp (le-leb signBit b (omega arith), some-units (field b) (digits b) (omega arith), lt-ltb signBit b l)
+    above (no n) = at-most (ℕ-discrete b signBit) (omega arith) ∙ sym (le-ltb signBit b (omega arith))
 
 pub ratio-bits : (b : ℕ) → b < 2 ^ 64 → badRatio (ofBits binary64 b) ≡ noRatio b
 unfolding badRatio
 ratio-bits b h = elim (read-bits b) [
-  | endless x e ↦ ap badRatio e ∙ sym (simp (eq-eqb (field b) 2047 x))
-  | no-number x e ↦ ap badRatio e ∙ sym (simp (eq-eqb (field b) 2047 x))
+  | endless x e ↦ ap badRatio e ∙ sym (simp (eq-eqb (field b) full x))
+  | no-number x e ↦ ap badRatio e ∙ sym (simp (eq-eqb (field b) full x))
   | number x v ↦
       bad-value (ofBits binary64 b) (negative b) (units (field b) (digits b)) v
       ∙ below-zero b h
-      ∙ sym (simp (ne-eqb (field b) 2047 (omega arith)))
+      ∙ sym (simp (ne-eqb (field b) full (omega arith)))
 ]
-
--- ---- either zero
-
--- as bits, 0 is 0.0, and the sign alone is -0.0
-pub zero-bits : (ofBits binary64 0 ≡ nought) × (ofBits binary64 (2 ^ 63) ≡ neg nought)
-unfolding ofBits neg
-zero-bits = (refl, refl)
-
--- what is made of a product goes by its size
-nearest-mag : (p : Float) → nearest p ≡ nearest (mag p)
-unfolding nearest
-nearest-mag nan = refl
-nearest-mag (inf s) = refl
-nearest-mag (fin s m e) = refl
-
-finite-mag : (p : Float) → finite p ≡ finite (mag p)
-finite-mag nan = refl
-finite-mag (inf s) = refl
-finite-mag (fin s m e) = refl
-
--- and a product with either zero has one size
-zeros : (x : Float) → mag (mul binary64 x (neg nought)) ≡ mag (mul binary64 x nought)
-unfolding mul neg
-zeros nan = refl
-zeros (inf s) = refl
-zeros (fin s m e) =
-    let n = m * up e * (0 * 1) in
-    let d = down e * 1 in
-    mag-round binary64 (unlike s true) n d ∙ sym (mag-round binary64 (unlike s false) n d)
-
-same-of : {A : Type 0} (f : Float → A) → ((p : Float) → f p ≡ f (mag p)) → (c : ℕ) → f (product c (neg nought)) ≡ f (product c nought)
-unfolding product
-same-of f by-size c = by-size _ ∙ ap f (zeros _) ∙ sym (by-size _)
-
--- settings with -0.0 come to what they come to with 0.0
-pub small-zeros : (top c : ℕ) (g : Float) → sizingUpTo top c (neg nought) g ≡ sizingUpTo top c nought g
-unfolding sizingUpTo neg
-small-zeros top c g = simp (same-of nearest nearest-mag c)
-
-pub ghost-zeros : (top c : ℕ) (s : Float) → sizingUpTo top c s (neg nought) ≡ sizingUpTo top c s nought
-unfolding sizingUpTo neg
-ghost-zeros top c s = simp (same-of nearest nearest-mag c, same-of finite finite-mag c)

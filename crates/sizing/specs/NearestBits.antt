@@ -9,11 +9,19 @@ use lib.Ieee.Exact.{HasValue}
 
 -- ---- a pattern's fields, and the number that they stand for
 
+-- the highest bit, the sign; alone it is -0.0
+abbrev pub signBit : ℕ
+signBit = 2 ^ 63
+
 abbrev pub negative : ℕ → Bool
-negative b = leb (2 ^ 63) b
+negative b = leb signBit b
 
 abbrev pub field : ℕ → ℕ
-field b = b % 2 ^ 63 / 2 ^ 52
+field b = b % signBit / 2 ^ 52
+
+-- the field of an infinity and of a NaN
+abbrev pub full : ℕ
+full = 2047
 
 abbrev pub digits : ℕ → ℕ
 digits b = b % 2 ^ 52
@@ -25,13 +33,13 @@ units (suc j) t = (2 ^ 52 + t) * 2 ^ j
 
 -- what sign, exponent's field and digits stand for; `read-bits` says it of every pattern
 pub data BitsRead (s : Bool) (x t : ℕ) (v : Float) : Type 0 where
-  endless : x ≡ 2047 → v ≡ inf s → BitsRead s x t v
-  no-number : x ≡ 2047 → v ≡ nan → BitsRead s x t v
-  number : x < 2047 → HasValue v s (units x t) (2 ^ 1074) → BitsRead s x t v
+  endless : x ≡ full → v ≡ inf s → BitsRead s x t v
+  no-number : x ≡ full → v ≡ nan → BitsRead s x t v
+  number : x < full → HasValue v s (units x t) (2 ^ 1074) → BitsRead s x t v
 
--- no ratio's: the exponent's field is full, as in an infinity and in a NaN, or the bits are above those of -0.0
+-- no ratio's: an infinity's or a NaN's, or above those of -0.0
 abbrev pub noRatio : ℕ → Bool
-noRatio b = eqb (field b) 2047 || ltb (2 ^ 63) b
+noRatio b = eqb (field b) full || ltb signBit b
 
 -- c is nearest to the finite number with the bits b, halves up: 2c - 1 <= 2p < 2c + 1, where p is so many units
 pub record NearestBits (b c : ℕ) : Type 0 where

@@ -1,18 +1,16 @@
 # A proved mapping cache. The pieces stand in mk/; `make help` prints the commands, which are these and those there:
 #
-#   make                     the library and the replay program
-#   make run [TRACE=file]    a trace in text through the replay program, its answers in text
-#   make stats [TRACE=file]  what a trace in text comes to: lookups, hits, pairs that left, all the counters
-#   make library             the archive that hosts link, target/staticlib/libmapcache.a
-#   make replay              the replay program, target/bin/replay
-#   make count               the program that counts, target/host/mapcache-count
-#   make tidy                nothing unused, no long line, no name with two meanings, one door to the store, no rule cited in vain, no
-#                            promise in proofs/ (tools/tidy); what has to be believed is listed (tools/believe)
-#   make gate-test           the gate's order, failures and last line, tried with an rt that proves nothing
-#   make store-example       the bytes that docs/STORE.md shows are those that the library writes
-#   make chains              the table of docs/STORE.md on chains is what its formula gives
-#   make clean               remove target/, and with it what is proved
-#   make help                this list
+#   make                   the library and the replay program
+#   make run [TRACE=file]  a trace in text through the replay program, its answers in text
+#   make library           the archive that hosts link, target/staticlib/libmapcache.a
+#   make replay            the replay program, target/bin/replay
+#   make tidy              nothing unused, no long line, no name with two meanings, one door to the store, no rule cited in vain, no
+#                          promise in proofs/ (tools/tidy); what has to be believed is listed (tools/believe)
+#   make gate-test         the gate's order, failures and last line, tried with an rt that proves nothing
+#   make store-example     the bytes that docs/STORE.md shows are those that the library writes
+#   make chains            the table of docs/STORE.md on chains is what its formula gives
+#   make clean             remove target/, and with it what is proved
+#   make help              this list
 
 all: library replay
 
@@ -33,7 +31,6 @@ REQUESTS ?= 20000000
 ARCHIVE := target/staticlib/libmapcache.a
 REPLAY := target/bin/replay
 HOST := target/host
-COUNT := $(HOST)/mapcache-count
 INCLUDE := $(HOST)/include
 HEADER := $(INCLUDE)/mapcache.h
 SOURCES := crates.txt $(shell find crates -name '*.rt' -o -name '*.antt')

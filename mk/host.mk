@@ -14,8 +14,7 @@ FUZZ := $(CARGO) run $(CARGO_FLAGS) -p mapcache-fuzz --
 THIN_FEATURES := $(if $(HAVE_ORIGINAL),--features thin-runs/original)
 RUST := --workspace $(if $(HAVE_ORIGINAL),$(THIN_FEATURES),--exclude original --exclude differential --exclude bench)
 
-.PHONY: host-test host-c host-rust host-thin host-tools host-run pieces rust-lint rust-fmt rust-clippy constants fuzz-gate fuzz \
-	count stats
+.PHONY: host-test host-c host-rust host-thin host-tools host-run pieces rust-lint rust-fmt rust-clippy constants fuzz-gate fuzz
 
 host-test: host-c host-rust pieces host-thin host-tools host-run host-install
 
@@ -51,20 +50,17 @@ host-c: $(ARCHIVE) $(HEADER) $(HOST)/example.c $(HOST)/pieces.c
 	@tests/archive/check $(NM) $(ARCHIVE)
 	@$(call header_example,example,$(EXAMPLE_SAYS))
 	@$(call header_example,pieces,$(PIECES_SAY))
-	@for host in test feed counters; do $(CC) $(CFLAGS) host/c/$$host.c $(ARCHIVE) -o $(HOST)/$$host && \
+	@for host in test feed; do $(CC) $(CFLAGS) host/c/$$host.c $(ARCHIVE) -o $(HOST)/$$host && \
 		$(CC) $(CFLAGS) $(SANITIZE) host/c/$$host.c $(ARCHIVE) -o $(HOST)/$$host-sanitized || exit 1; done
 	@$(call said,c-host,$(HOST)/test $(RECORDED)/calls.bin $(GATE_RANDOM_CALLS) $(HOST)/trace_d.store)
 	@$(call said,c-host-feed,$(HOST)/feed $(GATE_STREAMS))
-	@$(call said,c-host-counters,$(HOST)/counters $(GATE_COUNTED_CALLS))
 	@echo 'c host, sanitizers of $(if $(NATIVE),addresses and )undefined behaviour:' && \
-		$(HOST)/test-sanitized $(RECORDED)/calls.bin $(GATE_RANDOM_CALLS) && $(HOST)/feed-sanitized $(GATE_STREAMS) && \
-		$(HOST)/counters-sanitized $(GATE_COUNTED_CALLS)
+		$(HOST)/test-sanitized $(RECORDED)/calls.bin $(GATE_RANDOM_CALLS) && $(HOST)/feed-sanitized $(GATE_STREAMS)
 	@if test -z '$(NATIVE)'; then echo 'host-c: valgrind cannot look into an emulator: that run is left out'; \
 	elif command -v valgrind > /dev/null; then \
 		echo 'c host, valgrind:' && \
 		$(call said,c-host-valgrind,$(VALGRIND) $(HOST)/test $(RECORDED)/calls.bin $(VALGRIND_CALLS)) && \
-		$(call said,c-host-feed-valgrind,$(VALGRIND) $(HOST)/feed $(VALGRIND_STREAMS)) && \
-		$(call said,c-host-counters-valgrind,$(VALGRIND) $(HOST)/counters $(VALGRIND_COUNTED_CALLS)); \
+		$(call said,c-host-feed-valgrind,$(VALGRIND) $(HOST)/feed $(VALGRIND_STREAMS)); \
 	else $(call left_out,valgrind,that run of the host in C is left out); fi
 
 host-rust: $(ARCHIVE)
@@ -83,9 +79,8 @@ host-thin: $(ARCHIVE) | $(HOST)
 		{ echo 'host-thin: ORIGINAL=$(ORIGINAL) does not hold the original: that half is left out'; test '$(STRICT)' != 1; }
 	@$(call said,thin-runs,$(CARGO) run $(CARGO_FLAGS) -p thin-runs $(THIN_FEATURES) -- --runs $(GATE_THIN_RUNS) --map $(HOST)/thin.map)
 
-host-tools: host-c manual $(COUNT)
-	@$(call said,tools-mapcache,HEADER='$(abspath $(HEADER))' STORE='$(abspath $(HOST)/trace_d.store)' COUNT='$(abspath $(COUNT))' \
-		python3 tests/tools/test_mapcache.py)
+host-tools: host-c manual
+	@$(call said,tools-mapcache,HEADER='$(abspath $(HEADER))' STORE='$(abspath $(HOST)/trace_d.store)' python3 tests/tools/test_mapcache.py)
 	@$(call said,tools-scripts,python3 tests/tools/test_scripts.py)
 	@if command -v groff > /dev/null; then \
 		said=$$(groff -man -Tutf8 -ww -z $(MANUAL) 2>&1) && test -z "$$said" || { echo "groff: $$said" >&2; exit 1; }; \
@@ -103,23 +98,11 @@ run_trace = tools/mapcache encode $(1) > $(HOST)/run.requests && \
 run: $(REPLAY) | $(HOST)
 	@$(call run_trace,$(TRACE))
 
-$(COUNT): host/c/count.c $(ARCHIVE) $(HEADER)
-	@$(CC) $(CFLAGS) $< $(ARCHIVE) -o $@
-
-count: $(COUNT)
-
-stats: $(COUNT)
-	@tools/mapcache stats $(TRACE)
-
-host-run: $(REPLAY) $(COUNT) | $(HOST)
+host-run: $(REPLAY) | $(HOST)
 	@$(call run_trace,examples/first.trace) > $(HOST)/first.answers
 	@cmp $(HOST)/first.answers examples/first.answers && echo 'make run: the example gives its answers'
 	@test "$$($(REPLAY) --version < /dev/null)" = 'mapcache-replay $(VERSION)' || \
 		{ echo 'host-run: $(REPLAY) --version does not say mapcache-replay $(VERSION)' >&2; exit 1; }
-	@tools/mapcache stats examples/first.trace > $(HOST)/first.counters
-	@cmp $(HOST)/first.counters examples/first.counters && echo 'make stats: the example comes to its counters'
-	@test "$$($(COUNT) --version)" = 'mapcache-count $(VERSION)' || \
-		{ echo 'host-run: $(COUNT) --version does not say mapcache-count $(VERSION)' >&2; exit 1; }
 
 fuzz-gate: $(ARCHIVE)
 	@$(call said,fuzz,$(FUZZ) --seed $(GATE_FUZZ_SEED) --calls $(GATE_FUZZ_CALLS))

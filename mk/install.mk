@@ -4,9 +4,9 @@
 #   make uninstall [PREFIX=dir] [DESTDIR=dir]  remove those files
 
 # What is installed, below the prefix.
-INSTALLED := include/mapcache.h lib/libmapcache.a lib/pkgconfig/mapcache.pc bin/mapcache bin/mapcache-replay bin/mapcache-count \
-	share/man/man1/mapcache.1 share/man/man1/mapcache-replay.1 share/man/man1/mapcache-count.1
-MANUAL := $(HOST)/man/mapcache.1 $(HOST)/man/mapcache-replay.1 $(HOST)/man/mapcache-count.1
+INSTALLED := include/mapcache.h lib/libmapcache.a lib/pkgconfig/mapcache.pc bin/mapcache bin/mapcache-replay \
+	share/man/man1/mapcache.1 share/man/man1/mapcache-replay.1
+MANUAL := $(HOST)/man/mapcache.1 $(HOST)/man/mapcache-replay.1
 
 .PHONY: install uninstall manual host-install
 
@@ -26,14 +26,13 @@ install -m 644 $(ARCHIVE) "$$to/lib/libmapcache.a"; \
 $(FILL_IN) -e 's|@PREFIX@|$(1)|' host/mapcache.pc.in > "$$to/lib/pkgconfig/mapcache.pc"; \
 $(FILL_IN) tools/mapcache > "$$to/bin/mapcache"; chmod 755 "$$to/bin/mapcache"; \
 install -m 755 $(REPLAY) "$$to/bin/mapcache-replay"; \
-install -m 755 $(COUNT) "$$to/bin/mapcache-count"; \
 install -m 644 $(MANUAL) "$$to/share/man/man1"
 endef
 
 # Removes what install_below installs, and no folder: others may use it.
 uninstall_below = rm -f $(foreach file,$(INSTALLED),'$(2)$(1)/$(file)')
 
-install: $(ARCHIVE) $(REPLAY) $(COUNT) $(HEADER) $(MANUAL)
+install: $(ARCHIVE) $(REPLAY) $(HEADER) $(MANUAL)
 	@$(call install_below,$(PREFIX),$(DESTDIR))
 	@echo 'installed below $(DESTDIR)$(PREFIX)'
 
@@ -43,7 +42,7 @@ uninstall:
 
 # An installation into a folder serves a host that knows only that folder, says its version everywhere, and leaves what is
 # not its own when it goes.
-host-install: $(ARCHIVE) $(REPLAY) $(COUNT) $(HEADER) $(MANUAL) $(HOST)/example.c
+host-install: $(ARCHIVE) $(REPLAY) $(HEADER) $(MANUAL) $(HOST)/example.c
 	@rm -rf $(HOST)/prefix && mkdir -p $(HOST)/prefix/bin && echo kept > $(HOST)/prefix/bin/other
 	@$(call install_below,$(abspath $(HOST)/prefix),)
 	@STRICT='$(STRICT)' WITHOUT='$(WITHOUT)' \

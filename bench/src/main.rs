@@ -1,7 +1,6 @@
-//! The proved library and the original on the same requests in the same run: times as ratios, what counting adds, the check of
-//! a store alone, and instructions where valgrind is present. Prints the figures of docs/SPEED.md.
+//! The proved library and the original on the same requests in the same run: times as ratios, the check of a store
+//! alone, and instructions where valgrind is present. Prints the figures of docs/SPEED.md.
 
-mod counted;
 mod input;
 mod instructions;
 mod pieces;
@@ -37,7 +36,6 @@ fn main() -> ExitCode {
 fn all(requests: u64) -> Result<(), String> {
     println!("Processor: {}", machine());
     print_times(requests);
-    print_counted(requests);
     print_stores();
     print_pieces(FED_REQUESTS.min(requests));
     match instructions::possible() {
@@ -68,18 +66,6 @@ fn print_times(requests: u64) {
             ours / original,
             ours / unwritten,
         );
-    }
-}
-
-fn print_counted(requests: u64) {
-    println!("\nThe same with counters, uniform keys:\n");
-    println!("| capacity | plain, ns a request | counted, ns a request | counted / plain |\n|---|---|---|---|");
-    for capacity in CAPACITIES {
-        let input = input(capacity, Pattern::Uniform, requests, SEED);
-        assert!(counted::agrees(&input, requests), "the replies differ, or not every request is counted");
-        let (plain, counted) = counted::measure(&input);
-        let [plain, counted] = [plain, counted].map(|time| time.as_nanos() as f64 / requests as f64);
-        println!("| {capacity} | {plain:.1} | {counted:.1} | {:.2} |", counted / plain);
     }
 }
 

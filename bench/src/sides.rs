@@ -5,7 +5,7 @@
 //! zeros where a pair left, so that it writes as much as ours; finding the pair out would take it longer.
 
 use crate::input::{Call, Input};
-use mapcache::{Counters, GuestBlock, Pair, PhysicalBlock, Reply, Request};
+use mapcache::{GuestBlock, Pair, PhysicalBlock, Reply, Request};
 use original::policy::s3_fifo::S3FifoCache;
 use std::hint::black_box;
 
@@ -51,28 +51,6 @@ impl Side for Ours {
             let written =
                 mapcache::run(&mut self.store, &call.requests, &mut self.replies).expect("the calls are valid");
             each(&self.replies[..written]);
-        }
-    }
-}
-
-/// Ours with counters lent to each call.
-pub struct Counted {
-    ours: Ours,
-    pub counters: Counters,
-}
-
-impl Counted {
-    pub fn new(input: &Input) -> Counted {
-        Counted { ours: Ours::new(input), counters: Counters::default() }
-    }
-}
-
-impl Side for Counted {
-    fn run(&mut self, calls: &[Call], each: &mut dyn FnMut(&[u8])) {
-        let Ours { store, replies, .. } = &mut self.ours;
-        for call in calls {
-            let written = mapcache::run_counted(store, &call.requests, replies, &mut self.counters);
-            each(&replies[..written.expect("the calls are valid")]);
         }
     }
 }

@@ -26,12 +26,6 @@ pub fn measure(input: &Input) -> Times {
     best
 }
 
-/// The quickest of some rounds of each of two kinds of work, in turn.
-pub fn best_in_turn(mut one: impl FnMut(), mut other: impl FnMut()) -> (Duration, Duration) {
-    (0..ROUNDS)
-        .fold((Duration::MAX, Duration::MAX), |best, _| (best.0.min(timed(&mut one)), best.1.min(timed(&mut other))))
-}
-
 /// The quickest of some rounds of the same work.
 pub fn best_of_rounds(mut work: impl FnMut()) -> Duration {
     (0..ROUNDS).map(|_| timed(&mut work)).min().expect("there are rounds")

@@ -42,26 +42,11 @@ static inline struct buffer block(size_t len, uint8_t fill)
     return b;
 }
 
-static inline struct buffer bytes(const void *from, size_t len)
-{
-    struct buffer b = block(len, 0);
-    memcpy(b.bytes, from, len);
-    return b;
-}
-
 static inline struct buffer copy(struct buffer from)
 {
-    return bytes(from.bytes, from.len);
-}
-
-/* Both, one behind the other. They are the function's own. */
-static inline struct buffer joined(struct buffer a, struct buffer b)
-{
-    struct buffer both = block(a.len + b.len, 0);
-    memcpy(both.bytes, a.bytes, a.len);
-    memcpy(both.bytes + a.len, b.bytes, b.len);
-    free(a.bytes), free(b.bytes);
-    return both;
+    struct buffer b = block(from.len, 0);
+    memcpy(b.bytes, from.bytes, from.len);
+    return b;
 }
 
 static inline int same(struct buffer a, struct buffer b)

@@ -21,12 +21,28 @@ struct fed {
     uint64_t detail;
 };
 
+static struct buffer bytes(const void *from, size_t len)
+{
+    struct buffer b = block(len, 0);
+    memcpy(b.bytes, from, len);
+    return b;
+}
+
 /* As much of the records as stands from one offset up to another. */
 static struct buffer part(const struct record *records, size_t from, size_t to)
 {
     struct buffer all = written(records), some = bytes(all.bytes + from, to - from);
     free(all.bytes);
     return some;
+}
+
+static struct buffer joined(struct buffer a, struct buffer b)
+{
+    struct buffer both = block(a.len + b.len, 0);
+    memcpy(both.bytes, a.bytes, a.len);
+    memcpy(both.bytes + a.len, b.bytes, b.len);
+    free(a.bytes), free(b.bytes);
+    return both;
 }
 
 /* The 32 bytes that the header gives for a carry. */

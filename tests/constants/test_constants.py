@@ -26,7 +26,6 @@ IN_HEADER = {
 DEFAULTS = {"settings_capacity", "settings_small_ratio", "settings_ghost_ratio"}
 IN_WRAPPER = IN_HEADER | {"max_freq"} | DEFAULTS
 IN_TOOL = IN_HEADER | {"max_freq", "settings_bytes"}
-IN_COUNT = {"settings_bytes"}
 IN_CALLS = {"store_bytes", "most_request_bytes"}
 IN_SIZES = {"most"}
 
@@ -101,7 +100,7 @@ class Constants(unittest.TestCase):
         self.assertEqual(constants, {name: self.proved[name] for name in names}, f"the values in {place}")
 
     def test_each_is_known_to_some_place(self):
-        self.assertEqual(set(self.proved), IN_HEADER | IN_WRAPPER | IN_TOOL | IN_COUNT | IN_CALLS | IN_SIZES)
+        self.assertEqual(set(self.proved), IN_HEADER | IN_WRAPPER | IN_TOOL | IN_CALLS | IN_SIZES)
 
     def test_header(self):
         with tempfile.TemporaryDirectory() as folder:
@@ -125,10 +124,6 @@ class Constants(unittest.TestCase):
 
     def test_tool(self):
         self.compare("tools/mapcache", constants_of(output_of(sys.executable, "tools/mapcache", "constants")), IN_TOOL)
-
-    def test_the_program_that_counts(self):
-        defined = re.findall(r"^#define (\w+) (\d+)$", read("host/c/count.c"), re.M)
-        self.compare("host/c/count.c", {name.lower(): value for name, value in defined}, IN_COUNT)
 
     def test_what_writes_recorded_calls_and_sizes(self):
         for script, names in [("tools/make_calls.py", IN_CALLS), ("tools/make_sizes.py", IN_SIZES)]:

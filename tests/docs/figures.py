@@ -61,11 +61,6 @@ def rows_of_fuzz(said):
     yield "fuzz: feeds refused, by number", fuzz(r"^  feed: .*; refused (.*)$")
     stopped = (fuzz(rf"^    streams stopped by a feed {how} replies +(\d+)$") for how in ("with", "without"))
     yield "fuzz: streams stopped by a feed, with replies and without", ", ".join(stopped)
-    for what in ("run", "feed"):
-        yield f"fuzz: {what}s with counters, accepted", fuzz(rf"^  counted {what}: accepted (\d+);")
-        yield f"fuzz: {what}s with counters, refused, by number", fuzz(rf"^  counted {what}: .*; refused (.*)$")
-    yield "fuzz: feeds with counters that count something and stop their stream", fuzz(r"^  counted feeds .* stop their stream: (\d+)$")
-    yield "fuzz: counters that were raised and went on at 0", str(counters_met(fuzz))
     yield "fuzz: finishes of a complete stream", fuzz(r"^  finish: accepted (\d+);")
     yield "fuzz: finishes refused, by number", fuzz(r"^  finish: .*; refused (.*)$")
     yield "fuzz: things wrong with a carry, each by itself", str(things_wrong_with_a_carry(fuzz))
@@ -77,11 +72,6 @@ def things_wrong_with_a_carry(fuzz):
     return len(re.findall(r"^    [a-z]+,? [a-z].* +\d+ +\d+$", fuzz.text, re.M))
 
 
-def counters_met(fuzz):
-    """The counters that came past 2^64 - 1 in some call."""
-    return len(re.findall(r"^    \w+ +raised by +[1-9]\d* calls, taken past 2\^64 - 1 by +[1-9]\d*$", fuzz.text, re.M))
-
-
 def rows_of_hosts(said, original):
     host = Printed(said, "c-host")
     yield "host in C: recorded steps", host(r"^c host: (\d+) recorded steps")
@@ -91,11 +81,6 @@ def rows_of_hosts(said, original):
     feed = Printed(said, "c-host-feed")
     yield "host in C, pieces: random streams", feed(r"^c host, pieces: (\d+) random streams")
     yield "host in C, pieces: checks", feed(r"^c host, pieces: (\d+) checks, 0 failed$")
-    counters = Printed(said, "c-host-counters")
-    yield "host in C, counters: steps with counts by hand", counters(r"^c host, counters: (\d+) steps with counts by hand")
-    yield "host in C, counters: cuttings of a stream", counters(r" by hand, (\d+) cuttings of streams")
-    yield "host in C, counters: random calls", counters(r"^c host, counters: (\d+) random calls")
-    yield "host in C, counters: checks", counters(r"^c host, counters: (\d+) checks, 0 failed$")
     runs = Printed(said, "thin-runs")
     yield "example host: random runs of 300 events", runs(r"^Over the mapping cache, (\d+) random runs of 300 events:$")
     yield "example host: blocks given out", runs(r"^  (\d+) blocks given out,")
@@ -129,26 +114,21 @@ def rows(said, machine, original):
         yield "host in C under valgrind, 300 random calls: checks", Printed(said, "c-host-valgrind")(r"^c host: (\d+) checks, 0 failed$")
         pieces = Printed(said, "c-host-feed-valgrind")
         yield "host in C under valgrind, 50 random streams: checks", pieces(r"^c host, pieces: (\d+) checks, 0 failed$")
-        counters = Printed(said, "c-host-counters-valgrind")
-        yield "host in C under valgrind, 50 counted calls: checks", counters(r"^c host, counters: (\d+) checks, 0 failed$")
     if original:
         run = Printed(said, "differential")
         yield "differential run: requests", run(r"^ +(\d+)  requests$")
         yield "differential run: calls", run(r"^ +(\d+)  calls$")
         yield "differential run: requests fed", run(r"^ +(\d+)  requests fed$")
         yield "differential run: pieces", run(r"^ +(\d+)  pieces fed$")
-        counted = run(r"^differential: .* and so do all 13 counters after each of (\d+) calls and (\d+) pieces$")
-        yield "differential run: calls and pieces whose counters agree", ", ".join(counted)
         yield "differential run: kinds of event", str(kinds_of_event(said))
 
 
 MAY_BE_MISSING = {
     "host in C under valgrind, 300 random calls: checks",
     "host in C under valgrind, 50 random streams: checks",
-    "host in C under valgrind, 50 counted calls: checks",
     "example host, over the original: runs in which a block comes to belong to two",
     "differential run: requests", "differential run: calls", "differential run: requests fed", "differential run: pieces",
-    "differential run: calls and pieces whose counters agree", "differential run: kinds of event",
+    "differential run: kinds of event",
 }
 
 

@@ -29,7 +29,6 @@ ELSEWHERE = {
     "crates/ghosts/stdin": "make differential-gate: what the original is asked",
     "crates/ghosts/stdout": "make differential-gate: the original's answers",
     "examples/first.answers": "make host-run: the replay program's answers",
-    "examples/first.counters": "make host-run: what mapcache stats says of the example",
     "examples/thin.told": "make host-thin: the example host prints it",
 }
 

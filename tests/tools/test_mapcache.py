@@ -1,7 +1,7 @@
 """tools/mapcache as people use it: run in a shell's place, with files and pipes.
 
 The store of trace D that `show` is tried on is named by the environment variable STORE (host/c/test.c writes it), the header
-by HEADER, the program that counts by COUNT."""
+by HEADER."""
 
 import os
 import random
@@ -9,7 +9,6 @@ import re
 import struct
 import subprocess
 import sys
-import tempfile
 import unittest
 
 HERE = os.path.dirname(os.path.abspath(__file__))
@@ -265,167 +264,9 @@ Ghosts limit 2    newest > (3) > oldest
         self.assertIn("the store is cut", mapcache("show", given=self.store[:200])[2])
 
 
-def table_of(text):
-    """The counters of the table that people read, in its order."""
-    return {name: int(count) for name, count in re.findall(r"^(\w+) +(\d+)  \w", text, re.M)}
-
-
-def fields_of_the_header():
-    with open(os.environ["HEADER"], encoding="utf-8") as file:
-        record = re.search(r"^struct mapcache_counters \{$(.*?)^\};$", file.read(), re.M | re.S)[1]
-    return re.findall(r"^    uint64_t (\w+);", record, re.M)
-
-
-class Stats(unittest.TestCase):
-    COUNTERS = os.path.join(HERE, "../../examples/first.counters")
-
-    def counted(self, trace):
-        """What a trace comes to: the counters that are not 0, and the two lines below them."""
-        status, text, said = mapcache("stats", given=trace)
-        self.assertEqual((status, said), (0, ""), trace)
-        table = table_of(text.decode())
-        self.assertEqual(list(table), fields_of_the_header())
-        return {name: count for name, count in table.items() if count}, text.decode().splitlines()[-2:]
-
-    def test_the_example(self):
-        with open(self.COUNTERS, "rb") as file:
-            table = file.read()
-        self.assertEqual(mapcache("stats", EXAMPLE), (0, table, ""))
-        with open(EXAMPLE, "rb") as file:
-            self.assertEqual(mapcache("stats", given=file.read()), (0, table, ""))
-
-    def test_the_manual_page_has_that_table(self):
-        with open(self.COUNTERS, encoding="utf-8") as table, open(os.path.join(HERE, "../../man/mapcache.1.in"), encoding="utf-8") as page:
-            self.assertIn("$ mapcache stats my.trace\n" + table.read() + ".fi\n", page.read())
-
-    def test_by_hand(self):
-        # 7 is warm, so it goes to Main and leaves from there; 7 comes back as no ghost, 8 does as one
-        trace = "capacity 1\ninsert 7 70\ninsert 7 71\nget 7\ninsert 8 80\nget 7\ninsert 7 72\ninsert 8 81\npeek 8\nremove 8\nevict\nclear\n"
-        counters, below = self.counted(trace)
-        self.assertEqual(counters, {
-            "get_calls": 2, "get_hits": 1, "get_misses": 1, "insert_calls": 5, "insert_updates": 1, "insert_new": 4, "evict_calls": 3,
-            "evicted_entries": 3, "promotions": 1, "small_evictions": 2, "main_evictions": 1, "ghost_hits": 1})
-        self.assertEqual(below, ["hit rate         50.0% of 2 lookups", "pairs that left  3: 2 out of Small, 1 out of Main"])
-
-    def test_no_lookup_and_one(self):
-        nothing = "pairs that left  0: 0 out of Small, 0 out of Main"
-        self.assertEqual(self.counted("capacity 1\n"), ({}, ["hit rate         there was no lookup", nothing]))
-        one = {"get_calls": 1, "get_misses": 1}
-        self.assertEqual(self.counted("capacity 1\nget 1"), (one, ["hit rate         0.0% of 1 lookup", nothing]))
-
-    def test_a_trace_longer_than_one_call_takes(self):
-        trace = "capacity 2\ninsert 1 10\n" + "get 1\nget 2\n" * 20000
-        counters, below = self.counted(trace)
-        self.assertEqual(counters, {"get_calls": 40000, "get_hits": 20000, "get_misses": 20000, "insert_calls": 1, "insert_new": 1})
-        self.assertEqual(below[0], "hit rate         50.0% of 40000 lookups")
-
-    def test_what_monitoring_reads(self):
-        status, text, said = mapcache("stats", "--prometheus", EXAMPLE)
-        self.assertEqual((status, said), (0, ""))
-        self.assertTrue(text.endswith(b"\n") and b"\n\n" not in text and b"\r" not in text)
-        lines = text.decode("ascii").splitlines()
-        exposed = {}
-        self.assertEqual(len(lines), 3 * 13)
-        for help_line, type_line, sample in zip(lines[0::3], lines[1::3], lines[2::3]):
-            name, count = re.fullmatch(r"([a-zA-Z_:][a-zA-Z0-9_:]*) (\d+)", sample).groups()
-            self.assertRegex(help_line, rf"^# HELP {name} [A-Z][^\\]*\.$")
-            self.assertEqual(type_line, f"# TYPE {name} counter")
-            self.assertNotIn(name, exposed)
-            exposed[name] = int(count)
-        with open(self.COUNTERS, encoding="utf-8") as file:
-            table = table_of(file.read())
-        self.assertEqual(exposed, {f"mapcache_{name}_total": count for name, count in table.items()})
-
-    def test_bad_traces_are_named(self):
-        for trace, told in [
-            ("", "standard input: there is no line 'capacity N ..'"),
-            ("# nothing\n", "standard input: there is no line 'capacity N ..'"),
-            ("get 1", "standard input: there is no line 'capacity N ..'"),
-            ("capacity 1\nget", "standard input:2: 'get' takes a key"),
-            (b"capacity 1\n\xff", "is no text"),
-        ]:
-            status, text, said = mapcache("stats", given=trace)
-            self.assertEqual((status, text, said.count("\n")), (1, b"", 1), trace)
-            self.assertIn(told, said)
-        self.assertEqual(mapcache("stats", "no such file"), (1, b"", "mapcache: no such file: No such file or directory\n"))
-
-    def test_settings_that_are_refused(self):
-        for settings, refusal in [
-            ("capacity 0", "1: the capacity is 0"), ("capacity 1025", "2: the capacity is above 1,024"),
-            ("capacity 1 small 1.5", "3: the small ratio is"), ("capacity 1 ghost nan", "4: the ghost ratio is"),
-            ("capacity 1024 ghost 1.1", "5: the ghost limit is above 1,024"),
-        ]:
-            # the program ends with most of the requests unread, and that is no error of its own
-            status, text, said = mapcache("stats", "--prometheus", given=settings + "\n" + "get 1\n" * 50000)
-            self.assertEqual((status, text, said.count("\n")), (3, b"", 1), settings)
-            self.assertIn(f"mapcache: standard input: refusal {refusal}", said)
-
-    def test_a_program_that_does_not_count(self):
-        with tempfile.TemporaryDirectory() as folder:
-            for body, told in [
-                (None, "is not there: `make count` builds it"),
-                ("exit 0", "it does not print the counters of this version"),
-                ("echo get_calls 7", "it does not print the counters of this version"),
-                ("echo broken >&2; exit 1", ": broken"),
-                ("kill -9 $$", "it does not print the counters of this version"),
-            ]:
-                program = os.path.join(folder, "count")
-                if body is not None:
-                    with open(program, "w", encoding="utf-8") as file:
-                        file.write(f"#!/bin/sh\n{body}\n")
-                    os.chmod(program, 0o755)
-                status, text, said = mapcache("stats", "--program", program, EXAMPLE)
-                self.assertEqual((status, text, said.count("\n")), (1, b"", 1), body)
-                self.assertIn(told, said)
-            os.chmod(program, 0o644)
-            self.assertIn("Permission denied", mapcache("stats", "--program", program, EXAMPLE)[2])
-
-
-class Count(unittest.TestCase):
-    """The program that counts, on bytes that are no trace."""
-
-    SETTINGS = b"CF" + number(1) + struct.pack("<dd", 0.1, 0.9)
-
-    def count(self, *words, given=b"", out=subprocess.PIPE):
-        done = subprocess.run([os.environ["COUNT"], *words], input=given, stdout=out, stderr=subprocess.PIPE, check=False)
-        return done.returncode, done.stdout, done.stderr.decode()
-
-    def test_a_name_and_a_number_to_a_line(self):
-        status, text, said = self.count(given=self.SETTINGS + b"EVGT" + number(3))
-        self.assertEqual((status, said), (0, ""))
-        wanted = {name: "1" if name in ("get_calls", "get_misses") else "0" for name in fields_of_the_header()}
-        self.assertEqual([line.split(" ") for line in text.decode().splitlines()], [[*pair] for pair in wanted.items()])
-
-    def test_what_is_refused(self):
-        for given, number_, detail in [
-            (b"", 9, 0), (b"GT" + number(1) * 3, 9, 0), (self.SETTINGS[:-1], 9, 0),
-            (b"CF" + number(0) + self.SETTINGS[10:], 1, 0),
-            (self.SETTINGS + b"EVXX", 9, 2), (self.SETTINGS + b"EVGT", 9, 2), (self.SETTINGS + b"EVE", 9, 2),
-            (self.SETTINGS + b"EV" * 20000 + b"XX" + b"EV" * 20000, 9, 40000),
-        ]:
-            told = f"mapcache-count: refusal {number_}, detail {detail}\n"
-            self.assertEqual(self.count(given=given), (3, b"", told), given[:40])
-
-    def test_what_cannot_be_read_or_written(self):
-        with open("/dev/full", "wb") as full:
-            told = "mapcache-count: standard output: No space left on device\n"
-            self.assertEqual(self.count(given=self.SETTINGS, out=full), (1, None, told))
-        folder = os.open(HERE, os.O_RDONLY)
-        done = subprocess.run([os.environ["COUNT"]], stdin=folder, capture_output=True, check=False)
-        os.close(folder)
-        self.assertEqual((done.returncode, done.stdout), (1, b""))
-        self.assertEqual(done.stderr, b"mapcache-count: standard input: Is a directory\n")
-
-    def test_bad_usage(self):
-        for words in [["--help"], ["a.trace"], ["--version", "x"]]:
-            status, text, said = self.count(*words)
-            self.assertEqual((status, text), (2, b""))
-            self.assertIn("usage: mapcache-count", said)
-
-
 class Usage(unittest.TestCase):
     def test_help(self):
-        for words in [["--help"], *([command, "--help"] for command in ["encode", "decode", "replies", "explain", "show", "stats", "constants"])]:
+        for words in [["--help"], *([command, "--help"] for command in ["encode", "decode", "replies", "explain", "show", "constants"])]:
             status, text, said = mapcache(*words)
             self.assertEqual((status, said), (0, ""))
             self.assertIn(b"usage: mapcache", text)

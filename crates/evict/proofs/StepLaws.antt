@@ -23,9 +23,8 @@ use Rattle.store.proofs.LookLaws.{tail_seated}
 use Rattle.ghost_list.specs.Ghosts.{RecordedTail}
 use Rattle.evict.specs.declared.Popped.{Popped}
 use Rattle.evict.specs.declared.Popped.TheVariants.{Back, Cold}
-use Rattle.evict.specs.declared.Turn.{Turn as Turn·}
-use Rattle.evict.specs.declared.Turn.TheVariants.{Left}
-use Rattle.evict.specs.Evicts.{turn_of, moved_out_of, Picks, PopsTail, Steps, Leaves}
+use Rattle.evict.specs.declared.Turn.TheVariants.{Moved, Left}
+use Rattle.evict.specs.Evicts.{Picks, PopsTail, Steps, Leaves}
 use Rattle.evict.proofs.PopLaws.{cold-wanted}
 
 -- ---- the queue that is popped
@@ -69,22 +68,17 @@ seated_main q e t = rw e at (tail_seated t)
 
 -- ---- the step
 
-turn_moved : (q : Queue) (τ : State) → moved q τ ≡ turn_of (moved_out_of q) τ
-turn_moved Small τ = refl
-turn_moved Main τ = refl
-
 module _ {z : Shape} {s : List ℕ} (h : Held z s) (q : QueueKind) (v : Picks z s (queue_kind q)) {s₁ : List ℕ} {r : Popped}
     (p : PopsTail z s s₁ (queue_kind q) r) where
-  pub steps-moved : r ≡ Back → {t : Turn·} → t ≡ moved_out_of (queue_kind q) → Steps z s s₁ t
-  steps-moved e g =
+  pub steps-moved : r ≡ Back → Steps z s s₁ (Moved q)
+  steps-moved e =
       let σ : State = state_in z s in
       let w = p.went e in
       let n : step σ ≡ moved (queue_kind q) (back (queue_kind q) p.before p.entry σ) =
       step-moves σ (queue_kind q) p.before p.entry v.picked p.tail-is w.warm in
       record {
         held = record { keeps = w.becomes.keeps; sound = rw w.becomes.state (moved-sound n h.sound) };
-        turn = n ∙ ap (moved (queue_kind q)) (sym w.becomes.state) ∙ turn_moved (queue_kind q) (state_in z s₁)
-            ∙ ap (λ (t : Turn·). turn_of t (state_in z s₁)) (sym g);
+        turn = n ∙ ap (moved (queue_kind q)) (sym w.becomes.state);
         rest = w.becomes.rest;
       }
 

@@ -6,14 +6,13 @@ use Rattle.rules.specs.declared.GuestBlock.{GuestBlock}
 use Rattle.rules.specs.declared.PhysicalBlock.{PhysicalBlock}
 use Rattle.rules.specs.State.{Entry, State, Queue, Small, Main, fresh, queue_of, set_queue}
 use Rattle.rules.specs.Records.{Reply, ES, EM}
-use Rattle.rules.specs.Counters.{Event, evict_call, evicted_entry, promotion, main_reinsert, small_eviction, main_eviction, Counter, times, raised_by}
 use Rattle.rules.specs.Eviction.{Turn, moved, left, victim, wanted, back, ghosted, step, Evicted}
 use Rattle.store.specs.Holds.{state_in, rest_in, Held, Becomes}
 use Rattle.store.specs.Seats.{queue_kind, Seat}
 use Rattle.evict.specs.declared.Popped.{Popped}
 use Rattle.evict.specs.declared.Popped.TheVariants.{Back, Cold}
 use Rattle.evict.specs.declared.Turn.{Turn as Turn·}
-use Rattle.evict.specs.declared.Turn.TheVariants.{Promoted, Reinserted, Left}
+use Rattle.evict.specs.declared.Turn.TheVariants.{Moved, Left}
 use Rattle.evict.specs.declared.Pushed.{Pushed}
 use Rattle.evict.specs.declared.Pushed.TheVariants.{Nothing, FromSmall, FromMain}
 use Rattle.evict.specs.declared.Evicted.{Evicted as Evicted·}
@@ -25,14 +24,8 @@ cool_to Main n = pred n
 
 -- the turn that the code's is, into a state
 abbrev pub turn_of : Turn· → State → Turn
-turn_of Promoted τ = moved Small τ
-turn_of Reinserted τ = moved Main τ
+turn_of (Moved q) τ = moved (queue_kind q) τ
 turn_of (Left q k v) τ = left (queue_kind q) (fresh k.0 v.0) τ
-
--- the turn of an entry that went back
-abbrev pub moved_out_of : Queue → Turn·
-moved_out_of Small = Promoted
-moved_out_of Main = Reinserted
 
 -- what is told of a pair that was pushed out
 abbrev pub pushed_of : Pushed → List Reply
@@ -73,28 +66,11 @@ pub record Steps (z : Shape) (s s' : List ℕ) (r : Turn·) : Type 0 where
   pub turn : step (state_in z s) ≡ turn_of r (state_in z s')
   pub rest : rest_in z s' ≡ rest_in z s
 
--- the recorders that the code's answer stands for: those of the pair that left, and of the entries that moved
-abbrev pub left_events : Pushed → List Event
-left_events Nothing = []
-left_events (FromSmall k v) = evict_call ∷ small_eviction ∷ evicted_entry ∷ []
-left_events (FromMain k v) = evict_call ∷ main_eviction ∷ evicted_entry ∷ []
-
-abbrev pub moved_events : ℕ → ℕ → List Event
-moved_events a b = times a promotion ++ times b main_reinsert
-
-abbrev pub evicted_events : Evicted· → List Event
-evicted_events r = left_events r.pushed ++ moved_events r.promotions r.main_reinserts
-
--- they raise each counter as often as es do
-pub record Raises (es : List Event) (r : Evicted·) : Type 0 where
-  pub each : (i : Counter) → raised_by i (evicted_events r) ≡ raised_by i es
-
 -- an eviction, or what stands in its place
-pub record Makes (z : Shape) (s s' : List ℕ) (w : Evicted) (es : List Event) (r : Evicted·) : Type 0 where
+pub record Makes (z : Shape) (s s' : List ℕ) (w : Evicted) (r : Evicted·) : Type 0 where
   pub becomes : Becomes z s s' w.state
   pub told : pushed_of r.pushed ≡ w.told
   pub pops : r.pops ≡ w.pops
-  pub raises : Raises es r
 
 -- the last entry of a queue left
 pub record Leaves (z : Shape) (s s' : List ℕ) (q : Queue) (x : ℕ) : Type 0 where

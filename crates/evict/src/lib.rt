@@ -3,10 +3,9 @@
 ghost use Rattle.std.specs.Prelude.{◌≡◌, ◌≤◌, ◌<◌, length, [], ◌∷◌};
 ghost use Rattle.rules.specs.State.{fresh, queue_of, residents};
 ghost use Rattle.rules.specs.Eviction.{evict, evict_if_full, tell};
-ghost use Rattle.rules.specs.Counters.{evict_call, evict_events, full_events};
 ghost use Rattle.store.specs.Holds.{state_in, Held};
 ghost use Rattle.store.specs.Seats.{queue_kind, Tail};
-ghost use Rattle.evict.specs.Evicts.{cool_to, moved_out_of, pushed_of, Picks, PopsTail, Steps, Makes, Leaves};
+ghost use Rattle.evict.specs.Evicts.{cool_to, pushed_of, Picks, PopsTail, Steps, Makes, Leaves};
 
 use rules::{GuestBlock, PhysicalBlock};
 use store::{QueueKind, Shape};
@@ -18,11 +17,10 @@ pub enum Popped {
     Cold(usize, GuestBlock, PhysicalBlock),
 }
 
-// What a step does: the popped entry went from Small to Main's head, or from Main's tail to its head, or it left.
+// What a step does: the popped entry went to Main's head, or it left.
 #[derive(Drop)]
 enum Turn {
-    Promoted,
-    Reinserted,
+    Moved(QueueKind),
     Left(QueueKind, GuestBlock, PhysicalBlock),
 }
 
@@ -34,14 +32,11 @@ pub enum Pushed {
     FromMain(GuestBlock, PhysicalBlock),
 }
 
-// What an eviction comes to: the pair that left, and how many pops it took; of those before the last one, how many took an entry from
-// Small to Main, and how many put one of Main back.
+// What an eviction comes to: the pair that left, and how many pops it took.
 #[derive(Drop)]
 pub struct Evicted {
     pub pushed: Pushed,
     pub pops: u64,
-    pub promotions: u64,
-    pub main_reinserts: u64,
 }
 
 // The queue whose tail is popped: Small above its limit, otherwise Main unless it is empty.
@@ -98,16 +93,6 @@ fn leave(s: &mut [u8], z: Shape, q: QueueKind, x: usize)
     }
 }
 
-// The turn of an entry that went to Main's head.
-fn moved_from(q: QueueKind) -> Turn
-    ensures { result ≡ moved_out_of (queue_kind q) }
-{
-    match q {
-        QueueKind::Small => Turn::Promoted,
-        QueueKind::Main => Turn::Reinserted,
-    }
-}
-
 // The tail of the queue that was picked goes to Main's head or leaves.
 fn try_evict_from_queue(s: &mut [u8], z: Shape, q: QueueKind) -> Turn
     requires { Held z s.old × Picks z s.old (queue_kind q) × (1 ≤ length (queue_of (queue_kind q) (state_in z s.old))) }
@@ -115,7 +100,7 @@ fn try_evict_from_queue(s: &mut [u8], z: Shape, q: QueueKind) -> Turn
 {
     let popped = pop_tail(s, z, q);
     match popped {
-        Popped::Back => moved_from(q),
+        Popped::Back => Turn::Moved(q),
         Popped::Cold(x, k, v) => {
             leave(s, z, q, x);
             Turn::Left(q, k, v)
@@ -144,24 +129,18 @@ fn pushed_from(q: QueueKind, k: GuestBlock, v: PhysicalBlock) -> Pushed
 // Steps until a pair has left. Each step that moves an entry lowers the sum of frequencies, so the loop ends.
 fn evict(s: &mut [u8], z: Shape) -> Evicted
     requires { Held z s.old × (1 ≤ residents (state_in z s.old)) }
-    ensures { Makes z s.old s.new (evict (state_in z s.old))
-        (evict_call ∷ evict_events (state_in z s.old)) result }
+    ensures { Makes z s.old s.new (evict (state_in z s.old)) result }
 {
     let mut pops = 0;
-    let mut promotions = 0;
-    let mut main_reinserts = 0;
     loop {
         let turn = step(s, z);
         pops += 1;
         match turn {
-            Turn::Promoted => promotions += 1,
-            Turn::Reinserted => main_reinserts += 1,
+            Turn::Moved(_) => {}
             Turn::Left(q, k, v) => {
                 return Evicted {
                     pushed: pushed_from(q, k, v),
                     pops,
-                    promotions,
-                    main_reinserts,
                 }
             }
         }
@@ -178,15 +157,12 @@ fn residents_of(s: &[u8], z: Shape) -> u64
 // Eviction where the cache is full; otherwise nothing.
 pub fn evict_if_needed(s: &mut [u8], z: Shape) -> Evicted
     requires { Held z s.old }
-    ensures { Makes z s.old s.new (evict_if_full (state_in z s.old))
-        (full_events (state_in z s.old)) result }
+    ensures { Makes z s.old s.new (evict_if_full (state_in z s.old)) result }
 {
     if residents_of(s, z) < store::capacity_of(s, z) {
         return Evicted {
             pushed: Pushed::Nothing,
             pops: 0,
-            promotions: 0,
-            main_reinserts: 0,
         };
     }
     evict(s, z)

@@ -22,13 +22,11 @@ use Rattle.s3_fifo.specs.declared.Ran.TheVariants.{Done, Refused}
 use Rattle.rules.specs.declared.Turned.TheVariants.{BadRecord}
 use Rattle.rules.specs.Carry.{Carry}
 use Rattle.rules.specs.Feed.{Onward, feed}
-use Rattle.s3_fifo.specs.declared.Fed.{Fed}
-use Rattle.s3_fifo.specs.declared.Fed.TheVariants.{Done as Given, Stopped, Refused as Away}
+use Rattle.runs.specs.declared.Fed.{Fed}
+use Rattle.runs.specs.declared.Fed.TheVariants.{Done as Given, Stopped, Refused as Away}
 use Rattle.s3_fifo.specs.declared.Finish.{Finish}
 use Rattle.s3_fifo.specs.declared.Finish.TheVariants.{Refused as Broken}
 use Rattle.s3_fifo.specs.Calls.{Said, gave, halted, turned, created_says, ran_says, Follows, Called}
-use Rattle.counters.specs.declared.Counters.{Counters}
-use Rattle.s3_fifo.specs.CountedCalls.{CalledCounted, FedCounted}
 use Rattle.s3_fifo.specs.Feeds.{fed_says, finish_says, said_with, FollowsFeed, FedAs}
 use Rattle.mapcache.specs.Codes.{code_of, FitsIn}
 
@@ -53,11 +51,6 @@ follows_fit (done σ bs) a s s' p p' l h =
 
 pub called-fits : {s q p s' p' : List ℕ} {r : Ran} → Called s q p r s' p' → length p' < 2 ^ 63 → FitsIn (ran_says r)
 called-fits {s} {q} {p} {s'} {p'} {r} c h = follows_fit (call c.store q (length p)) (ran_says r) s s' p p' c.leaves h
-
--- the same of a call that counts, whose reply buffer keeps its length
-pub counted-fits : {s q p s' p' : List ℕ} {c c' : Counters} {r : Ran} → CalledCounted s q p c r s' p' c' → length p < 2 ^ 63 → length p' ≡ length p
-    → FitsIn (ran_says r)
-counted-fits x h l = called-fits x.called (omega arith)
 
 -- an answer of so many reply bytes
 pub gave_fits : {a : Said} {n : ℕ} → a ≡ gave n → FitsIn a → SFits w64 (pos n)
@@ -98,10 +91,6 @@ follows_feed-fit (done w bs) a s s' c c' p p' l h =
 
 pub fed-fits : {s c q p s' c' p' : List ℕ} {r : Fed} → FedAs s c q p r s' c' p' → length p' < 2 ^ 63 → FitsIn (fed_says r)
 fed-fits {s} {c} {q} {p} {s'} {c'} {p'} {r} f h = follows_feed-fit (feed f.store f.carry q (length p)) (fed_says r) s s' c c' p p' f.leaves h
-
-pub fed-counted-fits : {s k q p s' k' p' : List ℕ} {c c' : Counters} {r : Fed} → FedCounted s k q p c r s' k' p' c' → length p < 2 ^ 63
-    → length p' ≡ length p → FitsIn (fed_says r)
-fed-counted-fits x h l = fed-fits x.fed (omega arith)
 
 pub given-fits : {r : Fed} {n : ℕ} → r ≡ Given n → FitsIn (fed_says r) → SFits w64 (pos n)
 given-fits e h = gave_fits (ap fed_says e) h

@@ -25,24 +25,19 @@ use Rattle.s3_fifo.specs.declared.Ran.TheVariants.{Done, Refused}
 use Rattle.rules.specs.Bytes.{parse}
 use Rattle.rules.specs.Carry.{opening, CarryAs}
 use Rattle.rules.specs.Feed.{completed_of, glued, ended}
-use Rattle.s3_fifo.specs.declared.Fed.{Fed}
-use Rattle.s3_fifo.specs.declared.Fed.TheVariants.{Done as Given, Stopped, Refused as Away}
+use Rattle.runs.specs.declared.Fed.{Fed}
+use Rattle.runs.specs.declared.Fed.TheVariants.{Done as Given, Stopped, Refused as Away}
 use Rattle.s3_fifo.specs.declared.Finish.{Finish}
 use Rattle.s3_fifo.specs.Feeds.{fed_says, finish_says, replies_in, carried_out, verdict_says}
 use Rattle.s3_fifo.specs.Streams.{NotTurned, Stream, over, feeds}
 use Rattle.s3_fifo.specs.Calls.{Said, gave, halted, turned, created_says, ran_says, Follows, Created, Called}
 use Rattle.s3_fifo.specs.Once.{Agrees}
-use Rattle.counters.specs.declared.Counters.{Counters}
-use Rattle.s3_fifo.specs.CountedCalls.{CalledCounted}
 use Rattle.s3_fifo.specs.Chains.{Chain, start, accepted, refused, fed}
-use Rattle.s3_fifo.specs.Tallies.{Tally}
-use Rattle.s3_fifo.specs.Tallies as tallies
-use Rattle.s3_fifo.proofs.TallyLaws.{counted-once as counters-once, fed-counted-once as fed-counters-once}
 use Rattle.s3_fifo.proofs.ChainLaws.{created-intact, called-intact}
 use Rattle.s3_fifo.proofs.StreamLaws.{cut_anywhere, as_one-call, finish-says}
 use Rattle.s3_fifo.proofs.WentLaws.{fed-intact, fed-fit}
 use Rattle.s3_fifo.proofs.OnceLaws as once
-use Rattle.mapcache.specs.Codes.{code_of, detail_in, CreatedAs, CalledAs, CalledCountedAs, FedWith, FedCountedWith, FinishedWith}
+use Rattle.mapcache.specs.Codes.{code_of, detail_in, CreatedAs, CalledAs, FedWith, FinishedWith}
 use Rattle.mapcache.specs.Exported.{Negative, OneOutcome, nine, OneFed, Streamed, over as over·, feeds as feeds·, Exported}
 
 -- ---- what a code and a detail say
@@ -251,36 +246,6 @@ finish-says-all : {s c bs s' c' : List ℕ} {m : ℤ} {d : ℕ} (ps : List (List
 finish-says-all ps x t f =
     let e = finish-says ps x (streamed t) f.answer f.finished in (f.code_is ∙ ap code_of e, f.detail-is ∙ ap detail_in e)
 
--- ---- calls that count
-
-counted-plain : {s q p s' p' : List ℕ} {c c' : Counters} {m : ℤ} {d : ℕ} → CalledCountedAs s q p c m d s' p' c' → CalledAs s q p m d s' p'
-counted-plain x = record { answer = x.answer; called = x.called.called; code_is = x.code_is; detail-is = x.detail-is }
-
-fed-plain : {s k q p s' k' p' : List ℕ} {c c' : Counters} {m : ℤ} {n d : ℕ} → FedCountedWith s k q p c m n d s' k' p' c' → FedWith s k q p m n d s' k' p'
-fed-plain x = record { answer = x.answer; fed = x.fed.fed; code_is = x.code_is; replied-is = x.replied-is; detail-is = x.detail-is }
-
-counted_ran : {s q p s' p' : List ℕ} {c c' : Counters} {n d : ℕ} → CalledCountedAs s q p c (pos n) d s' p' c' → CalledCounted s q p c (Done n) s' p' c'
-counted_ran {s} {q} {p} {s'} {p'} {c} {c'} {n} x = subst (λ (r : Ran). CalledCounted s q p c r s' p' c') (by_code x.answer x.code_is) x.called
-  where
-    by_code : (r : Ran) → pos n ≡ code_of (ran_says r) → r ≡ Done n
-    by_code (Done m) e = ap Done (sym (ap above e))
-    by_code (Refused t) e = absurd (omega (arith, ap below e, below_minus (number_of t), some_number t))
-
-tally_stays : {s q p s' p' : List ℕ} {m : ℤ} {d : ℕ} {σ₀ : State} {rs : List Request} {bs : List ℕ} {c₀ c c' : Counters} → Tally s σ₀ rs bs c₀ c
-    → CalledCountedAs s q p c m d s' p' c' → Negative m → Tally s' σ₀ rs bs c₀ c'
-tally_stays {s} {q} {p} {s'} {p'} {m} {d} {σ₀} {rs} {bs} {c₀} {c} {c'} g x h = by_answer x.answer x.code_is x.called
-  where
-    by_answer : (r : Ran) → m ≡ code_of (ran_says r) → CalledCounted s q p c r s' p' c' → Tally s' σ₀ rs bs c₀ c'
-    by_answer (Done n) e k = absurd (subst Negative e h)
-    by_answer (Refused t) e k = tallies.refused (number_of t) (detail_of t) g k refl
-
-tally_feeds : {s k q p s' k' p' : List ℕ} {m : ℤ} {n d : ℕ} {σ₀ : State} {rs : List Request} {bs : List ℕ} {c₀ c c' : Counters} → Tally s σ₀ rs bs c₀ c
-    → Bytes k → Bytes q → (f : FedCountedWith s k q p c m n d s' k' p' c')
-    → Tally s' σ₀ (rs ++ carried_out (fed_says f.answer) (completed_of f.fed.fed.carry q)) (bs ++ take n p') c₀ c'
-tally_feeds {q = q} {s' = s'} {p' = p'} {σ₀ = σ₀} {rs = rs} {bs = bs} {c₀ = c₀} {c' = c'} g a b f =
-    subst (λ (i : ℕ). Tally s' σ₀ (rs ++ carried_out (fed_says f.answer) (completed_of f.fed.fed.carry q)) (bs ++ take i p') c₀ c') (sym f.replied-is)
-    (tallies.fed g a b f.fed)
-
 pub exported : Exported
 exported =
     record {
@@ -294,14 +259,6 @@ exported =
       chain_grows = λ g b c. accepted g b (ran c);
       chain-stays = chain-stays;
       fed-once = fed-once;
-      counted-plain = counted-plain;
-      fed-plain = fed-plain;
-      counted-once = λ x y. (called-once (counted-plain x) (counted-plain y), (counters-once x.answer y.answer x.called y.called).1);
-      fed-counted-once = λ x y. (fed-once (fed-plain x) (fed-plain y), (fed-counters-once x.answer y.answer x.fed y.fed).1);
-      tally_starts = λ c. tallies.start (made c);
-      tally_grows = λ g b x. tallies.accepted g b (counted_ran x);
-      tally_stays = tally_stays;
-      tally_feeds = tally_feeds;
       finished-once = finished-once;
       chain-feeds = chain-feeds;
       fed-intact = λ f g. fed-intact f.answer f.fed (fed-goes f g);

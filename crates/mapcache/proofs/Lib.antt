@@ -1,3 +1,2 @@
 mod CodeLaws
-mod BufferLaws
 mod ExportedLaws

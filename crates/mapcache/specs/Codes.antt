@@ -5,11 +5,9 @@ use Rattle.s3_fifo.specs.declared.Creation.{Creation}
 use Rattle.s3_fifo.specs.declared.Ran.{Ran}
 use Rattle.rules.specs.declared.Turned.TheVariants.{BadRecord}
 use Rattle.rules.specs.Refusals.{number_of}
-use Rattle.s3_fifo.specs.declared.Fed.{Fed}
+use Rattle.runs.specs.declared.Fed.{Fed}
 use Rattle.s3_fifo.specs.declared.Finish.{Finish}
 use Rattle.s3_fifo.specs.Calls.{Said, gave, halted, turned, created_says, ran_says, Created, Called}
-use Rattle.counters.specs.declared.Counters.{Counters}
-use Rattle.s3_fifo.specs.CountedCalls.{CalledCounted, FedCounted}
 use Rattle.s3_fifo.specs.Feeds.{fed_says, finish_says, replies_in, FedAs, FinishAs}
 
 -- the reply bytes, or minus the refusal's number; a stream that stops gives that of a bad record
@@ -47,20 +45,6 @@ pub record CalledAs (s q p : List ℕ) (code : ℤ) (detail : ℕ) (s' p' : List
 pub record FedWith (s c q p : List ℕ) (code : ℤ) (replied detail : ℕ) (s' c' p' : List ℕ) : Type 0 where
   pub answer : Fed
   pub fed : FedAs s c q p answer s' c' p'
-  pub code_is : code ≡ code_of (fed_says answer)
-  pub replied-is : replied ≡ replies_in (fed_says answer)
-  pub detail-is : detail ≡ detail_in (fed_says answer)
-
--- a call that counts, and a feed that does, with the counters before and after
-pub record CalledCountedAs (s q p : List ℕ) (c : Counters) (code : ℤ) (detail : ℕ) (s' p' : List ℕ) (c' : Counters) : Type 0 where
-  pub answer : Ran
-  pub called : CalledCounted s q p c answer s' p' c'
-  pub code_is : code ≡ code_of (ran_says answer)
-  pub detail-is : detail ≡ detail_in (ran_says answer)
-
-pub record FedCountedWith (s k q p : List ℕ) (c : Counters) (code : ℤ) (replied detail : ℕ) (s' k' p' : List ℕ) (c' : Counters) : Type 0 where
-  pub answer : Fed
-  pub fed : FedCounted s k q p c answer s' k' p' c'
   pub code_is : code ≡ code_of (fed_says answer)
   pub replied-is : replied ≡ replies_in (fed_says answer)
   pub detail-is : detail ≡ detail_in (fed_says answer)

@@ -17,10 +17,8 @@ use Rattle.s3_fifo.specs.Calls.{Said, halted, created_says, ran_says, ReadsAs, C
 use Rattle.s3_fifo.specs.Feeds.{fed_says, replies_in, carried_out, verdict_says}
 use Rattle.s3_fifo.specs.Once.{Agrees}
 use Rattle.s3_fifo.specs.Streams.{OneStream, AsOneCall}
-use Rattle.counters.specs.declared.Counters.{Counters}
 use Rattle.s3_fifo.specs.Chains.{Chain}
-use Rattle.s3_fifo.specs.Tallies.{Tally}
-use Rattle.mapcache.specs.Codes.{code_of, detail_in, CreatedAs, CalledAs, CalledCountedAs, FedWith, FedCountedWith, FinishedWith}
+use Rattle.mapcache.specs.Codes.{code_of, detail_in, CreatedAs, CalledAs, FedWith, FinishedWith}
 
 -- below 0: a refusal
 abbrev pub Negative : ℤ → Type 0
@@ -88,23 +86,6 @@ pub record Exported : Type 0 where
   pub chain-feeds : {s c q p s' c' p' : List ℕ} {m : ℤ} {n d : ℕ} {σ₀ : State} {rs : List Request} {bs : List ℕ} → Chain s σ₀ rs bs → Bytes c → Bytes q
       → (f : FedWith s c q p m n d s' c' p')
       → Chain s' σ₀ (rs ++ carried_out (fed_says f.answer) (completed_of f.fed.carry q)) (bs ++ take n p')
-  -- a call that counts is a call, and a feed that counts is a feed, so all of this is said of them too; their counters have one outcome with them
-  pub counted-plain : {s q p s' p' : List ℕ} {c c' : Counters} {m : ℤ} {d : ℕ} → CalledCountedAs s q p c m d s' p' c' → CalledAs s q p m d s' p'
-  pub fed-plain : {s k q p s' k' p' : List ℕ} {c c' : Counters} {m : ℤ} {n d : ℕ} → FedCountedWith s k q p c m n d s' k' p' c' → FedWith s k q p m n d s' k' p'
-  pub counted-once : {s q p s₁ s₂ p₁ p₂ : List ℕ} {c c₁ c₂ : Counters} {m n : ℤ} {d e : ℕ} → CalledCountedAs s q p c m d s₁ p₁ c₁
-      → CalledCountedAs s q p c n e s₂ p₂ c₂ → OneOutcome m n d e s₁ s₂ p₁ p₂ × (c₁ ≡ c₂)
-  pub fed-counted-once : {s k q p s₁ s₂ k₁ k₂ p₁ p₂ : List ℕ} {c c₁ c₂ : Counters} {m n : ℤ} {i j d e : ℕ} → FedCountedWith s k q p c m i d s₁ k₁ p₁ c₁
-      → FedCountedWith s k q p c n j e s₂ k₂ p₂ c₂ → OneFed m n i j d e s₁ s₂ k₁ k₂ p₁ p₂ × (c₁ ≡ c₂)
-  -- a creation starts a tally; an accepted call that counts, and any feed that does, adds to it; a refused call leaves it as it is
-  pub tally_starts : {capacity : ℕ} {small ghost : Float} {s s' : List ℕ} {c : Counters} → CreatedAs capacity small ghost s (pos 0) s'
-      → Tally s' (empty_at (limits_for capacity small ghost)) [] [] c c
-  pub tally_grows : {s q p s' p' : List ℕ} {n d : ℕ} {σ₀ : State} {rs : List Request} {bs : List ℕ} {c₀ c c' : Counters} → Tally s σ₀ rs bs c₀ c → Bytes q
-      → CalledCountedAs s q p c (pos n) d s' p' c' → Tally s' σ₀ (rs ++ (parse q).requests) (bs ++ take n p') c₀ c'
-  pub tally_stays : {s q p s' p' : List ℕ} {m : ℤ} {d : ℕ} {σ₀ : State} {rs : List Request} {bs : List ℕ} {c₀ c c' : Counters} → Tally s σ₀ rs bs c₀ c
-      → CalledCountedAs s q p c m d s' p' c' → Negative m → Tally s' σ₀ rs bs c₀ c'
-  pub tally_feeds : {s k q p s' k' p' : List ℕ} {m : ℤ} {n d : ℕ} {σ₀ : State} {rs : List Request} {bs : List ℕ} {c₀ c c' : Counters} → Tally s σ₀ rs bs c₀ c
-      → Bytes k → Bytes q → (f : FedCountedWith s k q p c m n d s' k' p' c')
-      → Tally s' σ₀ (rs ++ carried_out (fed_says f.answer) (completed_of f.fed.fed.carry q)) (bs ++ take n p') c₀ c'
   -- where a stream is cut makes no difference, and one that is fed and finished gives what one call on the whole gives
   pub cut_anywhere : {s c bs₁ bs₂ s₁ s₂ c₁ c₂ : List ℕ} (ps qs : List (List ℕ)) → Streamed s c ps bs₁ s₁ c₁ → Streamed s c qs bs₂ s₂ c₂ → glued ps ≡ glued qs
       → OneStream bs₁ bs₂ s₁ s₂ c₁ c₂

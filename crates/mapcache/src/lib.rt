@@ -4,11 +4,11 @@ ghost use Rattle.std.specs.Prelude.{◌≡◌, pos, neg_ℤ};
 ghost use Rattle.rules.specs.Refusals.{store_bytes};
 ghost use Rattle.s3_fifo.specs.Calls.{created_says, ran_says};
 ghost use Rattle.s3_fifo.specs.Feeds.{fed_says, finish_says, replies_in};
-ghost use Rattle.mapcache.specs.Codes.{code_of, detail_in, FitsIn, CreatedAs, CalledAs, CalledCountedAs, FedWith, FedCountedWith, FinishedWith};
+ghost use Rattle.mapcache.specs.Codes.{code_of, detail_in, FitsIn, CreatedAs, CalledAs, FedWith, FinishedWith};
 
-use counters::Counters;
 use rules::Turned;
-use s3_fifo::{Creation, Fed, Finish, Ran, S3FifoCache};
+use runs::Fed;
+use s3_fifo::{Creation, Finish, Ran, S3FifoCache};
 use sizing::Settings;
 
 // A refusal's number with a minus sign.
@@ -145,22 +145,6 @@ pub extern "C" fn mapcache_run(
 }
 
 #[unsafe(no_mangle)]
-pub extern "C" fn mapcache_run_counted(
-    store: &mut [u8],
-    requests: &[u8],
-    replies: &mut [u8],
-    counters: &mut Counters,
-    detail: &mut u64,
-) -> i64
-    ensures { CalledCountedAs store.old requests.now replies.old counters.old result detail.new
-        store.new replies.new counters.new }
-{
-    let ran = S3FifoCache::run_counted(store, requests, replies, counters);
-    *detail = ran_detail(ran);
-    ran_code(ran)
-}
-
-#[unsafe(no_mangle)]
 pub extern "C" fn mapcache_feed(
     store: &mut [u8],
     carry: &mut [u8],
@@ -173,25 +157,6 @@ pub extern "C" fn mapcache_feed(
         store.new carry.new replies.new }
 {
     let fed = S3FifoCache::feed(store, carry, piece, replies);
-    *replied = fed_replies(fed);
-    *detail = fed_detail(fed);
-    fed_code(fed)
-}
-
-#[unsafe(no_mangle)]
-pub extern "C" fn mapcache_feed_counted(
-    store: &mut [u8],
-    carry: &mut [u8],
-    piece: &[u8],
-    replies: &mut [u8],
-    counters: &mut Counters,
-    replied: &mut u64,
-    detail: &mut u64,
-) -> i64
-    ensures { FedCountedWith store.old carry.old piece.now replies.old counters.old result
-        replied.new detail.new store.new carry.new replies.new counters.new }
-{
-    let fed = S3FifoCache::feed_counted(store, carry, piece, replies, counters);
     *replied = fed_replies(fed);
     *detail = fed_detail(fed);
     fed_code(fed)

@@ -24,7 +24,7 @@ use Rattle.recorded.specs.declared.Told.{Told}
 use Rattle.recorded.specs.declared.Step.{Step}
 use Rattle.recorded.specs.declared.Case.{Case}
 use Rattle.recorded.specs.declared.Case.TheVariants.{Same, Differs, End, Broken}
-use Rattle.recorded.specs.declared.Score.{Score}
+use Rattle.recorded.specs.declared.Tally.{Tally}
 use Rattle.recorded.specs.Told.{told_of}
 use Rattle.recorded.specs.Compared.{unwritten, CreatedAsWritten, CaseAsWritten}
 use Rattle.recorded.specs.Steps.{Prepared, CallStepped, CreateStepped, lent_too_much, bad_settings, creates, RunStepped, store_too_long, room_too_long, runs}
@@ -223,10 +223,10 @@ pub more_largest : (n : ℕ) → 18446744073709551615 ≤ n → n ≡ more_of n
 more_largest n h = rw (le-ltb n 18446744073709551615 h) refl
 
 -- a tally by its four parts
-tally_is : (r t : Score) → r.taken ≡ t.taken → r.differ ≡ t.differ → r.going ≡ t.going → r.whole ≡ t.whole → r ≡ t
+tally_is : (r t : Tally) → r.taken ≡ t.taken → r.differ ≡ t.differ → r.going ≡ t.going → r.whole ≡ t.whole → r ≡ t
 tally_is r t a b c d = (λ i. record { taken = a i; differ = b i; going = c i; whole = d i })
 
-module _ (t : Score) {c : Case} {m : ℕ} (r : Score) where
+module _ (t : Tally) {c : Case} {m : ℕ} (r : Tally) where
   pub counted_same : c ≡ Same → m ≡ more_of t.taken → r.taken ≡ m → r.differ ≡ t.differ → r.going ≡ true → r.whole ≡ true → r ≡ counted_as t c
   counted_same e f a b g w = rw e (tally_is r (counted_as t Same) (a ∙ f) b g w)
 
@@ -234,14 +234,14 @@ module _ (t : Score) {c : Case} {m : ℕ} (r : Score) where
       → r.whole ≡ true → r ≡ counted_as t c
   counted_differs e f h a b g w = rw e (tally_is r (counted_as t Differs) (a ∙ f) (b ∙ h) g w)
 
-module _ (t : Score) {c : Case} (r : Score) (a : r.taken ≡ t.taken) (b : r.differ ≡ t.differ) (g : r.going ≡ false) where
+module _ (t : Tally) {c : Case} (r : Tally) (a : r.taken ≡ t.taken) (b : r.differ ≡ t.differ) (g : r.going ≡ false) where
   pub counted-end : c ≡ End → r.whole ≡ true → r ≡ counted_as t c
   counted-end e w = rw e (tally_is r (counted_as t End) a b g w)
 
   pub counted-broken : c ≡ Broken → r.whole ≡ false → r ≡ counted_as t c
   counted-broken e w = rw e (tally_is r (counted_as t Broken) a b g w)
 
-module _ {steps : Bool} {t r : Score} {input output store store' : List ℕ} {room : ℕ} {c : Case} where
+module _ {steps : Bool} {t r : Tally} {input output store store' : List ℕ} {room : ℕ} {c : Case} where
   pub turn_step : steps ≡ true → NextStep input output store room c store' → r ≡ counted_as t c → TurnTaken steps t input output store room r store'
   turn_step e n f = step_turn e c n f
 

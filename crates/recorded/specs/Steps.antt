@@ -14,7 +14,7 @@ use Rattle.recorded.specs.declared.Told.{Told}
 use Rattle.recorded.specs.declared.Step.{Step}
 use Rattle.recorded.specs.declared.Case.{Case}
 use Rattle.recorded.specs.declared.Case.TheVariants.{Same, Differs, End, Broken}
-use Rattle.recorded.specs.declared.Score.{Score}
+use Rattle.recorded.specs.declared.Tally.{Tally}
 use Rattle.recorded.specs.Told.{told_of}
 use Rattle.recorded.specs.Compared.{unwritten, CreatedAsWritten, RanAsWritten, CaseAsWritten}
 use Rattle.recorded.specs.Fresh.{Accepted}
@@ -139,13 +139,13 @@ pub data NextCase (input output : List ℕ) (room : ℕ) (r : Case) : Type 0 whe
 abbrev pub more_of : ℕ → ℕ
 more_of n = cond (ltb n 18446744073709551615) (n + 1) n
 
-abbrev pub counted_as : Score → Case → Score
+abbrev pub counted_as : Tally → Case → Tally
 counted_as t Same = record { taken = more_of t.taken; differ = t.differ; going = true; whole = true }
 counted_as t Differs = record { taken = more_of t.taken; differ = more_of t.differ; going = true; whole = true }
 counted_as t End = record { taken = t.taken; differ = t.differ; going = false; whole = true }
 counted_as t Broken = record { taken = t.taken; differ = t.differ; going = false; whole = false }
 
 -- one more step or case, and the tally after it
-pub data TurnTaken (steps : Bool) (t : Score) (input output store : List ℕ) (room : ℕ) (r : Score) (store' : List ℕ) : Type 0 where
+pub data TurnTaken (steps : Bool) (t : Tally) (input output store : List ℕ) (room : ℕ) (r : Tally) (store' : List ℕ) : Type 0 where
   step_turn : steps ≡ true → (c : Case) → NextStep input output store room c store' → r ≡ counted_as t c → TurnTaken steps t input output store room r store'
   case_turn : steps ≡ false → (c : Case) → NextCase input output room c → r ≡ counted_as t c → TurnTaken steps t input output store room r store'

@@ -55,7 +55,7 @@ struct Step {
 
 // What the cases so far gave.
 #[derive(Drop)]
-struct Score {
+struct Tally {
     taken: u64,
     differ: u64,
     going: bool,
@@ -537,11 +537,11 @@ fn complain(number: u64) {
 }
 
 // The tally after one more.
-fn counted(t: Score, c: Case) -> Score
+fn counted(t: Tally, c: Case) -> Tally
     ensures { result ≡ counted_as t c }
 {
     match c {
-        Case::Same => Score {
+        Case::Same => Tally {
             taken: more(t.taken),
             differ: t.differ,
             going: true,
@@ -549,20 +549,20 @@ fn counted(t: Score, c: Case) -> Score
         },
         Case::Differs => {
             complain(more(t.taken));
-            Score {
+            Tally {
                 taken: more(t.taken),
                 differ: more(t.differ),
                 going: true,
                 whole: true,
             }
         }
-        Case::End => Score {
+        Case::End => Tally {
             taken: t.taken,
             differ: t.differ,
             going: false,
             whole: true,
         },
-        Case::Broken => Score {
+        Case::Broken => Tally {
             taken: t.taken,
             differ: t.differ,
             going: false,
@@ -575,13 +575,13 @@ fn counted(t: Score, c: Case) -> Score
 fn turn(
     fd: i32,
     steps: bool,
-    t: Score,
+    t: Tally,
     input: &mut [u8],
     output: &mut [u8],
     store: &mut [u8],
     before: &mut [u8],
     out: &mut [u8],
-) -> Score
+) -> Tally
     requires { (store_bytes ≤ length store.old) × (length store.old ≡ length before.old) }
     ensures { TurnTaken steps t input.new output.new store.old (length out.old) result store.new }
 {
@@ -603,10 +603,10 @@ fn replay_all(
     store: &mut [u8],
     before: &mut [u8],
     out: &mut [u8],
-) -> Score
+) -> Tally
     requires { (store_bytes ≤ length store.old) × (length store.old ≡ length before.old) }
 {
-    let mut t = Score {
+    let mut t = Tally {
         taken: 0,
         differ: 0,
         going: true,
@@ -620,7 +620,7 @@ fn replay_all(
     t
 }
 
-fn print_tally(t: Score) {
+fn print_tally(t: Tally) {
     io::print_decimal(STDOUT_FILENO, t.taken);
     io::write_all(STDOUT_FILENO, b" replayed, ");
     io::print_decimal(STDOUT_FILENO, t.differ);

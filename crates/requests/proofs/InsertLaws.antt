@@ -11,7 +11,6 @@ use Rattle.nodes.specs.declared.Shape.{Shape}
 use Rattle.rules.specs.State.{Limits, State, Queue, Small, Main, set_ghosts, residents, places}
 use Rattle.rules.specs.Records.{IN, NW}
 use Rattle.rules.specs.Ghosts.{Removed, without, remove_ghost}
-use Rattle.rules.specs.Counters.{full_events}
 use Rattle.rules.specs.Eviction.{evict_if_full}
 use Rattle.rules.specs.Requests.{apply, on_insert, on_new, admits, arrive}
 use Rattle.rules.proofs.EngineLaws.{split-none}
@@ -22,11 +21,10 @@ use Rattle.store.specs.Holds.{state_in, Held, Becomes}
 use Rattle.store.specs.Seats.{GhostRemoved, CanAttachHead, AttachedHead}
 use Rattle.store.specs.Looks.{Looks, Lacks}
 use Rattle.store.proofs.KeepsLaws.{becomes_then}
-use Rattle.wire.specs.declared.Reply.{Reply as Reply·}
 use Rattle.wire.specs.declared.Reply.TheVariants.{New}
 use Rattle.wire.specs.Wire.{told}
 use Rattle.evict.specs.declared.Evicted.{Evicted as Evicted·}
-use Rattle.evict.specs.Evicts.{pushed_of, Raises, Makes}
+use Rattle.evict.specs.Evicts.{pushed_of, Makes}
 use Rattle.handing.specs.Handing.{Comes}
 use Rattle.handing.proofs.ComesLaws.{comes_then}
 use Rattle.requests.specs.declared.Spoken.{Spoken}
@@ -35,7 +33,7 @@ use Rattle.requests.proofs.KeyLaws.{answers, Nowhere, nowhere-keyed, nowhere_gho
 
 -- ---- room is made
 
-module _ {z : Shape} {s s₁ : List ℕ} {w : Evicted·} (h : Held z s) (m : Makes z s s₁ (evict_if_full (state_in z s)) (full_events (state_in z s)) w) where
+module _ {z : Shape} {s s₁ : List ℕ} {w : Evicted·} (h : Held z s) (m : Makes z s s₁ (evict_if_full (state_in z s)) w) where
   kept : Lessened (state_in z s) (evict_if_full (state_in z s)).state
   kept = roomy_kept (roomy_law (state_in z s) h.sound.fine)
 
@@ -63,20 +61,14 @@ module _ {z : Shape} {s s₁ : List ℕ} {w : Evicted·} (h : Held z s) (m : Mak
         );
       }
 
--- what it told of itself
-pub makes_raises : {z : Shape} {s s₁ : List ℕ} {w : Evicted·} → Makes z s s₁ (evict_if_full (state_in z s)) (full_events (state_in z s)) w
-    → Raises (full_events (state_in z s)) w
-makes_raises m = m.raises
-
 -- and the pair goes in
-pub arrived : {z : Shape} {s s₁ s₂ : List ℕ} {w : Evicted·} → Makes z s s₁ (evict_if_full (state_in z s)) (full_events (state_in z s)) w
-    → {q : Queue} {k v : ℕ} → AttachedHead z s₁ s₂ q k v
-    → {r : Reply·} → r ≡ New w.pops → Arrives z s s₂ q k v (record { evicted = w; closing = r })
-arrived {w = w} m b c =
+pub arrived : {z : Shape} {s s₁ s₂ : List ℕ} {w : Evicted·} → Makes z s s₁ (evict_if_full (state_in z s)) w → {q : Queue} {k v : ℕ} → AttachedHead z s₁ s₂ q k v
+    → (a : Spoken) → a.pushed ≡ w.pushed → a.closing ≡ New w.pops → Arrives z s s₂ q k v a
+arrived m b a e c =
     record {
       comes = record {
         becomes = becomes_then m.becomes (rw m.becomes.state at b.becomes);
-        replies = ap (λ (r : Reply·). pushed_of w.pushed ++ (told r ∷ [])) c ∙ ap₂ (λ l n. l ++ (NW n ∷ [])) m.told m.pops;
+        replies = ap₂ (λ p r. pushed_of p ++ (told r ∷ [])) e c ∙ ap₂ (λ l n. l ++ (NW n ∷ [])) m.told m.pops;
       };
     }
 
@@ -92,12 +84,12 @@ module _ {z : Shape} {s : List ℕ} {k : ℕ} {r : Lookup} (l : Looks z s k r) w
       (ap (on_insert k v (state_in z s)) n.place_is ∙ ap (on_new k v (state_in z s)) e) c.becomes c.replies (λ u. absurd u)
 
   module _ {x : ℕ} (e : r ≡ Ghost x) where
-    pub off : remove_ghost k (state_in z s).ghosts ≡ record { ghosts = (l.is_ghost x e).before ++ (l.is_ghost x e).after; was = true }
+    off : remove_ghost k (state_in z s).ghosts ≡ record { ghosts = (l.is_ghost x e).before ++ (l.is_ghost x e).after; was = true }
     unfolding remove_ghost
     off = ap (without (state_in z s).ghosts) (l.is_ghost x e).split-is
 
     module _ {s₁ : List ℕ} (m : GhostRemoved z s s₁ x) where
-      pub fell : Becomes z s s₁ (set_ghosts ((l.is_ghost x e).before ++ (l.is_ghost x e).after) (state_in z s))
+      fell : Becomes z s s₁ (set_ghosts ((l.is_ghost x e).before ++ (l.is_ghost x e).after) (state_in z s))
       fell = let t = l.is_ghost x e in m.of t.before k t.after t.seat
 
       module _ (h : Held z s) where
@@ -113,10 +105,8 @@ module _ {z : Shape} {s : List ℕ} {k : ℕ} {r : Lookup} (l : Looks z s k r) w
       pub insert_ghost : {s₂ : List ℕ} {v : ℕ} {a : Spoken} → Arrives z s₁ s₂ Main k v a → Answers z s s₂ (IN k v) a
       insert_ghost {v = v} c = new _ off (nowhere_ghost l e) (comes_then (λ σ. arrive Main k v (evict_if_full σ)) fell c.comes)
 
-  -- it was none
-  pub never : r ≡ Absent → remove_ghost k (state_in z s).ghosts ≡ record { ghosts = (state_in z s).ghosts; was = false }
-  unfolding remove_ghost
-  never e = ap (without (state_in z s).ghosts) (split-none (eqb k) (state_in z s).ghosts (omega (arith, (l.absent e).none)))
-
   pub insert_absent : r ≡ Absent → {s' : List ℕ} {v : ℕ} {a : Spoken} → Arrives z s s' Small k v a → Answers z s s' (IN k v) a
-  insert_absent e c = new _ (never e) (nowhere-absent l e) c.comes
+  unfolding remove_ghost
+  insert_absent e c =
+      new (record { ghosts = (state_in z s).ghosts; was = false })
+      (ap (without (state_in z s).ghosts) (split-none (eqb k) (state_in z s).ghosts (omega (arith, (l.absent e).none)))) (nowhere-absent l e) c.comes

@@ -9,7 +9,6 @@ use Rattle.rules.specs.Requests.{arrive, apply}
 use Rattle.wire.specs.Wire.{told}
 use Rattle.store.specs.Holds.{state_in, Becomes}
 use Rattle.wire.specs.declared.Reply.{Reply as Reply·}
-use Rattle.evict.specs.declared.Evicted.{Evicted as Evicted·}
 use Rattle.evict.specs.declared.Pushed.TheVariants.{Nothing}
 use Rattle.evict.specs.Evicts.{pushed_of}
 use Rattle.handing.specs.Handing.{Comes}
@@ -17,14 +16,11 @@ use Rattle.requests.specs.declared.Spoken.{Spoken}
 
 -- the replies that the code's answer is: the pair pushed out before, and the closing one
 abbrev pub spoken_of : Spoken → List Reply
-spoken_of r = pushed_of r.evicted.pushed ++ (told r.closing ∷ [])
+spoken_of r = pushed_of r.pushed ++ (told r.closing ∷ [])
 
--- the closing reply alone: nothing was evicted
-abbrev pub nothing : Evicted·
-nothing = record { pushed = Nothing; pops = 0; promotions = 0; main_reinserts = 0 }
-
+-- the closing reply alone
 abbrev pub alone : Reply· → Spoken
-alone r = record { evicted = nothing; closing = r }
+alone r = record { pushed = Nothing; closing = r }
 
 -- the request q was answered by r; a peek changed no byte
 pub record Answers (z : Shape) (s s' : List ℕ) (q : Request) (r : Spoken) : Type 0 where

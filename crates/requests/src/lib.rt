@@ -1,39 +1,34 @@
 // The requests on the store (RULES 5): lookup, peek, remove, insert, evict_one and clear, each with the replies that the rules
 // give it. A key is looked up once a request. No request fails on a store that holds a sound state, and no number stands for "none".
 ghost use Rattle.std.specs.Prelude.{◌≡◌, ◌+◌, ◌<◌, min};
-ghost use Rattle.rules.specs.Counters.{full_events};
 ghost use Rattle.rules.specs.State.{max_freq};
 ghost use Rattle.rules.specs.Records.{Request};
-ghost use Rattle.evict.specs.Evicts.{Raises};
-ghost use Rattle.store.specs.Holds.{state_in, Held};
+ghost use Rattle.store.specs.Holds.{Held};
 ghost use Rattle.store.specs.Seats.{queue_kind};
 ghost use Rattle.store.specs.Looks.{Lacks};
 ghost use Rattle.wire.specs.Wire.{asked};
 ghost use Rattle.requests.specs.Answers.{alone, Answers, Arrives};
 
-use evict::{Evicted, Pushed};
+use evict::Pushed;
 use rules::{GuestBlock, PhysicalBlock};
 use store::{Lookup, QueueKind, Shape};
 use wire::Reply;
 
-// What a request answers: what eviction came to, with the pair that it pushed out, and the closing reply.
+// What a request answers: the pair that eviction pushed out, and the closing reply.
 #[derive(Drop)]
 pub struct Spoken {
-    pub evicted: Evicted,
+    pub pushed: Pushed,
     pub closing: Reply,
 }
 
-// The answer where nothing was evicted.
+// The answer where no pair was pushed out.
 fn alone(closing: Reply) -> Spoken
     ensures { result ≡ alone closing }
 {
-    let evicted = Evicted {
+    Spoken {
         pushed: Pushed::Nothing,
-        pops: 0,
-        promotions: 0,
-        main_reinserts: 0,
-    };
-    Spoken { evicted, closing }
+        closing,
+    }
 }
 
 // A frequency raised: one more, at most the highest.
@@ -99,15 +94,17 @@ fn remove(s: &mut [u8], z: Shape, k: GuestBlock) -> Spoken
 }
 
 // A pair whose key stands nowhere goes in: eviction first where the cache is full.
-pub fn arrive(s: &mut [u8], z: Shape, q: QueueKind, k: GuestBlock, v: PhysicalBlock) -> Spoken
+fn arrive(s: &mut [u8], z: Shape, q: QueueKind, k: GuestBlock, v: PhysicalBlock) -> Spoken
     requires { Held z s.old × Lacks z s.old k.0 }
-    ensures arrives { Arrives z s.old s.new (queue_kind q) k.0 v.0 result }
-    ensures raises { Raises (full_events (state_in z s.old)) result.evicted }
+    ensures { Arrives z s.old s.new (queue_kind q) k.0 v.0 result }
 {
     let evicted = evict::evict_if_needed(s, z);
     store::attach_head(s, z, q, k, v);
-    let closing = Reply::New(evicted.pops);
-    Spoken { evicted, closing }
+    let pushed = evicted.pushed;
+    Spoken {
+        pushed,
+        closing: Reply::New(evicted.pops),
+    }
 }
 
 // Insert: a resident key gets the value and is raised; a ghost comes off its list, before eviction could drop it, and goes to Main; any other key
@@ -133,14 +130,14 @@ fn insert(s: &mut [u8], z: Shape, k: GuestBlock, v: PhysicalBlock) -> Spoken
 }
 
 // evict_one: eviction where the cache is full, and then one or two pops of its own.
-pub fn evict_one(s: &mut [u8], z: Shape) -> Spoken
+fn evict_one(s: &mut [u8], z: Shape) -> Spoken
     requires { Held z s.old }
-    ensures answers { Answers z s.old s.new Request.EV result }
-    ensures raises { Raises (full_events (state_in z s.old)) result.evicted }
+    ensures { Answers z s.old s.new Request.EV result }
 {
     let evicted = evict::evict_if_needed(s, z);
+    let pushed = evicted.pushed;
     let closing = handing::hand_out(s, z);
-    Spoken { evicted, closing }
+    Spoken { pushed, closing }
 }
 
 // Clear: ghosts and queues become empty, node by node, so that it costs what is there.

@@ -171,13 +171,13 @@ shift_end n (cut_at i) = cut_at (n + i)
 abbrev pub shift : ℕ → Parsed Request → Parsed Request
 shift n p = record { requests = p.requests; end = shift_end n p.end }
 
-abbrev pub shift_reading : ℕ → Reading Request → Reading Request
+abbrev shift_reading : ℕ → Reading Request → Reading Request
 shift_reading n (ask q after) = ask q (n + after)
 shift_reading n strange = strange
 shift_reading n short = short
 shift_reading n end = end
 
-pub read-drop : (n : ℕ) (s : List ℕ) (i : ℕ) → reading_at s (n + i) ≡ shift_reading n (reading_at (drop n s) i)
+read-drop : (n : ℕ) (s : List ℕ) (i : ℕ) → reading_at s (n + i) ≡ shift_reading n (reading_at (drop n s) i)
 unfolding reading_at
 read-drop n s i = ap (reading s (n + i)) (sym (spot_drop n s i)) ∙ go (spot_at (drop n s) i)
   where

@@ -3,7 +3,6 @@
 use Prim.Native.Nat.{ℕ, ◌+◌, ◌-◌, ◌≤◌, ◌<◌}
 use native.Mathlib.Omega.{arith}
 use native.Mathlib.Decide.{dec_le}
-use native.Mathlib.Nat.{add-zero}
 use borrow.Author.Tests.{lt-leb, le-ltb}
 use mathlib.Core.Path.{◌≡◌, refl, sym, ap, ap₂, ◌∙◌, subst}
 use mathlib.Core.Bool.{Bool, true, false, cond}
@@ -21,7 +20,7 @@ use Rattle.rules.specs.Bytes.{Parsed, ends, with, on_reading, parse_from, parse}
 use Rattle.rules.specs.Carry.{waits, left_by}
 use Rattle.rules.proofs.TableLaws.{find_known, row-kind, row-bytes}
 use Rattle.rules.proofs.ParseLaws.{Lies, spot_lies, read_goes, read-end, parse-step}
-use Rattle.rules.proofs.FeedLaws.{made-front, read-front, Firm, shift, shift_reading, read-drop, parse-drop, left-shift}
+use Rattle.rules.proofs.FeedLaws.{made-front, read-front, Firm, shift, parse-drop, left-shift}
 use Rattle.rules.proofs.CouldLaws.{cut_short, cut-parse}
 
 -- ---- a record that is whole reads the same in its own bytes
@@ -99,22 +98,6 @@ own-parse s q after e =
     let l : length t ≡ after = length-take-le after s (read_goes s 0 q after e).1 in
     parse-step t 0 ∙ ap (on_reading (parse_from t) 0) (own-bytes s q after e)
     ∙ ap (with q) (parse-step t after ∙ ap (on_reading (parse_from t) after) (read-end t after (omega arith)))
-
--- so do those of a record further on
-pub own-parse-at : (s : List ℕ) (i : ℕ) (q : Request) (after : ℕ) → reading_at s i ≡ ask q after
-    → parse (take (after - i) (drop i s)) ≡ record { requests = q ∷ []; end = whole }
-own-parse-at s i q after e = by (reading_at (drop i s) 0) refl (sym (read-drop i s 0) ∙ ap (reading_at s) (add-zero i) ∙ e)
-  where
-    by : (r : Reading Request) → reading_at (drop i s) 0 ≡ r → shift_reading i r ≡ ask q after
-        → parse (take (after - i) (drop i s)) ≡ record { requests = q ∷ []; end = whole }
-    by (ask p m) h g =
-        let a : i + m ≡ after = cc in
-        let b : p ≡ q = cc in
-        let c : after - i ≡ m = omega (arith, a) in
-        rw (c, ← b) (own-parse (drop i s) p m h)
-    by strange h g = let z : ◌≡◌ {A = ℕ} 0 1 = cc in absurd (omega arith)
-    by short h g = let z : ◌≡◌ {A = ℕ} 0 1 = cc in absurd (omega arith)
-    by end h g = let z : ◌≡◌ {A = ℕ} 0 1 = cc in absurd (omega arith)
 
 -- ---- what the first bytes say
 

@@ -10,10 +10,10 @@ use Rattle.cells.specs.Cells.{Bytes}
 use Rattle.nodes.specs.Nodes.{Rest, cols}
 use Rattle.nodes.specs.declared.Shape.{Shape}
 use Rattle.rules.specs.State.{State}
-use Rattle.rules.specs.Records.{Request, Reply, ES, EM, Narrow, Peeks, AllPeeks, Outcome, tell_first}
-use Rattle.rules.specs.Requests.{apply, run}
-use Rattle.rules.specs.Bytes.{room_of, room_for, encode, encode_all, Reading, ask, reading_at, Parsed, on_reading, parse_from, parse}
-use Rattle.rules.proofs.RoomLaws.{encode-length, encode-append, apply-size, run-size}
+use Rattle.rules.specs.Records.{Request, Reply, ES, EM, Peeks, AllPeeks, Outcome, tell_first}
+use Rattle.rules.specs.Requests.{run}
+use Rattle.rules.specs.Bytes.{room_for, encode, encode_all, Reading, ask, reading_at, Parsed, on_reading, parse_from}
+use Rattle.rules.proofs.RoomLaws.{encode-append, run-size}
 use Rattle.rules.proofs.LedgerLaws.{run-append}
 use Rattle.rules.proofs.StreamLaws.{room-append}
 use Rattle.cells.proofs.MembersLaws.{every-left, every_right}
@@ -169,100 +169,44 @@ module _ {z : Shape} {s₀ s q : List ℕ} {at₀ : ℕ} {p₀ p : List ℕ} {ou
   pub midway_cut : {x : Record} → meaning x ≡ reading_at q at → x ≡ Cut → Runs z s₀ s (parse_from q at₀).requests p₀ p out₀ out
   midway_cut read is = ended (ap meaning (sym is) ∙ read) refl
 
--- ---- one request, and none
-
--- an answer of the engine, written: its request was carried out
-module _ {z : Shape} {s s₁ : List ℕ} {q : Request} {w : Spoken} (h : Held z s) (a : Answers z s s₁ q w) {p : List ℕ} {out : ℕ}
-    (r : HasRoom (q ∷ []) p out) where
-  answer-room : length (encode_all (spoken_of w)) ≤ room_of q
-  answer-room = omega (arith, ap length (ap encode_all a.replies), encode-length (apply (state_in z s) q).replies, apply-size (state_in z s) q h.sound)
-
-  pub answer-fits : out + length (encode_all (spoken_of w)) ≤ length p
-  unfolding room_for
-  answer-fits = omega (arith, answer-room, r.within, r.room)
-
-  pub answer-runs : Narrow q → {p₁ : List ℕ} {e : ℕ} → Wrote p out (encode_all (spoken_of w)) p₁ e → length s₁ ≡ length s → Runs z s s₁ (q ∷ []) p p₁ out e
-  answer-runs n b l =
-      let m = progress_start h.sound (n, tt) r in
-      record {
-        held = record { keeps = a.becomes.keeps; sound = rw a.becomes.state (progress-sound m a.replies) };
-        carried = progress-end (progress-next m a.replies a.becomes.state b) refl;
-        rest = a.becomes.rest;
-        same = l;
-        untouched = λ u. a.untouched u.0;
-        sized = run-size (state_in z s) (q ∷ []) (n, tt) h.sound;
-      }
-
-pub runs_none : {z : Shape} {s p : List ℕ} {out : ℕ} → Held z s → out ≤ length p → Runs z s s [] p p out out
-unfolding run encode_all room_for
-runs_none {p = p} {out = out} h l =
-    record {
-      held = h;
-      carried = record { state = refl; replies = splice-none p out l; count = sym (add-zero out) };
-      rest = refl;
-      same = refl;
-      untouched = λ y. refl;
-      sized = omega arith;
-    }
-
 -- ---- one run after the other
 
-module _ {z : Shape} {s s₁ : List ℕ} {rs : List Request} {p p₁ : List ℕ} {o m : ℕ} (a : Runs z s s₁ rs p p₁ o m) where
-  runs-wrote : Wrote p o (encode_all (run (state_in z s) rs).replies) p₁ m
+module _ {z : Shape} {s s₁ : List ℕ} {rs : List Request} {p p₁ : List ℕ} {m : ℕ} (a : Runs z s s₁ rs p p₁ 0 m) where
+  runs-wrote : Wrote p 0 (encode_all (run (state_in z s) rs).replies) p₁ m
   runs-wrote = record { bytes = a.carried.replies; end = a.carried.count }
 
   -- there is room for more, where there was for both
-  pub runs-room : (more : List Request) → o + (room_for rs + room_for more) ≤ length p → HasRoom more p₁ m
+  pub runs-room : (more : List Request) → room_for rs + room_for more ≤ length p → HasRoom more p₁ m
   runs-room more h =
       let c = a.sized in
       let n = a.carried.count in
       let l = wrote-length runs-wrote (omega arith) in
       record { within = omega arith; room = omega arith }
 
-  pub runs-runs : {s₂ : List ℕ} {more : List Request} {p₂ : List ℕ} {r : ℕ} → Runs z s₁ s₂ more p₁ p₂ m r → o + (room_for rs + room_for more) ≤ length p
-      → Runs z s s₂ (rs ++ more) p p₂ o r
+  pub runs-runs : {s₂ : List ℕ} {more : List Request} {p₂ : List ℕ} {r : ℕ} → Runs z s₁ s₂ more p₁ p₂ m r → room_for rs + room_for more ≤ length p
+      → Runs z s s₂ (rs ++ more) p p₂ 0 r
   runs-runs {s₂} {more} {p₂} {r} b h =
       let σ = state_in z s in
       let τ = (run σ rs).state in
-      let u : run σ (rs ++ more) ≡ tell_first (run σ rs).replies (run τ more) = run-append σ rs more in
+      let o : run σ (rs ++ more) ≡ tell_first (run σ rs).replies (run τ more) = run-append σ rs more in
       let e : state_in z s₁ ≡ τ = a.carried.state in
       let first : List ℕ = encode_all (run σ rs).replies in
       let second : List ℕ = encode_all (run τ more).replies in
       let w : Wrote p₁ m second p₂ r = record { bytes = rw e at b.carried.replies; end = rw e at b.carried.count } in
       let x = a.sized in
       let y : length second ≤ room_for more = rw e at b.sized in
-      let v : Wrote p o (first ++ second) p₂ r = wrote-wrote runs-wrote w (omega arith) in
+      let v : Wrote p 0 (first ++ second) p₂ r = wrote-wrote runs-wrote w (omega arith) in
       let bytes : encode_all (run σ (rs ++ more)).replies ≡ first ++ second =
-      ap (λ (w : Outcome). encode_all w.replies) u ∙ encode-append (run σ rs).replies (run τ more).replies in
+      ap (λ (u : Outcome). encode_all u.replies) o ∙ encode-append (run σ rs).replies (run τ more).replies in
       record {
         held = b.held;
         carried = record {
-          state = b.carried.state ∙ ap (λ (ρ : State). (run ρ more).state) e ∙ sym (ap (λ (w : Outcome). w.state) u);
-          replies = v.bytes ∙ ap (splice p o) (sym bytes);
-          count = v.end ∙ ap (λ (l : List ℕ). o + length l) (sym bytes);
+          state = b.carried.state ∙ ap (λ (ρ : State). (run ρ more).state) e ∙ sym (ap (λ (u : Outcome). u.state) o);
+          replies = v.bytes ∙ ap (splice p 0) (sym bytes);
+          count = v.end ∙ ap (λ (l : List ℕ). 0 + length l) (sym bytes);
         };
         rest = b.rest ∙ a.rest;
         same = b.same ∙ a.same;
         untouched = λ u. b.untouched (every_right Peeks rs more u) ∙ a.untouched (every-left Peeks rs more u);
         sized = omega (arith, ap length bytes, length-append first second, room-append rs more);
       }
-
--- ---- what stands in front of a piece, and the piece from an offset on
-
-module _ (head piece : List ℕ) (from : ℕ) {p : List ℕ} (r : HasRoom ((parse head).requests ++ (parse_from piece from).requests) p 0) where
-  room-both : room_for (parse head).requests + room_for (parse_from piece from).requests ≤ length p
-  room-both = let l = r.room in omega (arith, room-append (parse head).requests (parse_from piece from).requests)
-
-  pub head-ready : HasRoom (parse_from head 0).requests p 0
-  unfolding parse
-  head-ready = let l = room-both in record { within = omega arith; room = omega arith }
-
-  module _ {z : Shape} {s s₁ p₁ : List ℕ} {m : ℕ} (a : Runs z s s₁ (parse_from head 0).requests p p₁ 0 m) where
-    pub piece-ready : HasRoom (parse_from piece from).requests p₁ m
-    unfolding parse
-    piece-ready = runs-room a (parse_from piece from).requests (omega (arith, room-both))
-
-    pub both-ran : {s₂ p₂ : List ℕ} {n : ℕ} → Runs z s₁ s₂ (parse_from piece from).requests p₁ p₂ m n
-        → Runs z s s₂ ((parse head).requests ++ (parse_from piece from).requests) p p₂ 0 n
-    unfolding parse
-    both-ran b = runs-runs a b (omega (arith, room-both))

@@ -1,18 +1,34 @@
-// Requests carried out one after the other (RULES 7.2, RULES 7.3) on a store that holds a state: those of a run of bytes, and those of two runs, a record that
-// was cut and the rest of a piece. What is asked of the bytes and of the reply room is asked by the calls above.
-ghost use Rattle.std.specs.Prelude.{◌++◌, ◌+◌, ◌≤◌, length};
-ghost use Rattle.rules.specs.Bytes.{encode_all, parse_from, parse};
+// Requests carried out one after the other (RULES 7.2, RULES 7.3) on a store that holds a state: those of a run of bytes, and those that a piece of a stream
+// completes, with the record that was cut before it. What is asked of the bytes and of the reply room is asked by the calls above.
+ghost use Rattle.std.specs.Prelude.{false, ◌++◌, ◌+◌, ◌≤◌, length, drop};
+ghost use Rattle.rules.specs.Bytes.{longest_record, encode_all, parse_from, parse};
+ghost use Rattle.rules.specs.Carry.{last_offset, carry_bytes, kept_room, left_by};
+ghost use Rattle.rules.specs.Refusals.{most_request_bytes};
 ghost use Rattle.wire.specs.Wire.{Wrote};
 ghost use Rattle.wire.specs.CarriedOut.{HasRoom};
+ghost use Rattle.carry.specs.Carries.{kept_in, Brings};
 ghost use Rattle.evict.specs.Evicts.{pushed_of};
 ghost use Rattle.requests.specs.Answers.{spoken_of};
 ghost use Rattle.store.specs.Holds.{Held};
-ghost use Rattle.runs.specs.Runs.{Runs};
+ghost use Rattle.runs.specs.Runs.{Runs, WentOn, FedOn};
 
+use carry::{Brought, Head};
 use evict::Pushed;
 use requests::Spoken;
+use rules::Turned;
 use store::Shape;
-use wire::{Record, Reply};
+use wire::{Record, Reply, Stop};
+
+// What a feed answers.
+#[derive(Drop)]
+pub enum Fed {
+    // So many reply bytes; the stream goes on.
+    Done(usize),
+    // So many reply bytes, and the offset of the unknown mark that stops the stream now.
+    Stopped(usize, u64),
+    // Turned away, also because the stream had stopped before; nothing has changed.
+    Refused(Turned),
+}
 
 // Writes the reply of a pair that was pushed out.
 fn put_pushed(replies: &mut [u8], at: usize, pushed: Pushed) -> usize
@@ -27,12 +43,11 @@ fn put_pushed(replies: &mut [u8], at: usize, pushed: Pushed) -> usize
 }
 
 // Writes what a request answered, and gives the offset after it.
-pub fn put_spoken(replies: &mut [u8], at: usize, spoken: Spoken) -> usize
+fn put_spoken(replies: &mut [u8], at: usize, spoken: Spoken) -> usize
     requires { at + length (encode_all (spoken_of spoken)) ≤ length replies.old }
     ensures { Wrote replies.old at (encode_all (spoken_of spoken)) replies.new result }
 {
-    let evicted = spoken.evicted;
-    let pushed = evicted.pushed;
+    let pushed = spoken.pushed;
     let closing = spoken.closing;
     let middle = put_pushed(replies, at, pushed);
     wire::put_reply(replies, middle, closing)
@@ -70,7 +85,7 @@ pub fn run_from(
 }
 
 // Carries out the requests of what stands in front of a piece, and then those of the piece from `from` on.
-pub fn run_both(
+fn run_both(
     store: &mut [u8],
     z: Shape,
     head: &[u8],
@@ -85,4 +100,90 @@ pub fn run_both(
 {
     let middle = run_from(store, z, head, 0, replies, 0);
     run_from(store, z, piece, from, replies, middle)
+}
+
+// Writes the record of a stream that goes on, with what the piece has from `at` on, and answers the reply bytes.
+fn go_on(carry: &mut [u8], offset: u64, piece: &[u8], at: usize, out: usize) -> Fed
+    requires { (carry_bytes ≤ length carry.old) × (at ≤ length piece.now) × (length piece.now ≤ at + kept_room) }
+    ensures { WentOn carry.old (record { offset = offset; kept = drop at piece.now; stopped = false })
+        carry.new out result }
+{
+    carry::put(carry, offset, false, piece, at);
+    Fed::Done(out)
+}
+
+// A feed of what stands in front of a piece, a whole record or nothing, and of the piece from `from` on. The piece's first byte has the offset `base`.
+fn feed_whole(
+    store: &mut [u8],
+    z: Shape,
+    carry: &mut [u8],
+    base: u64,
+    head: &[u8],
+    piece: &[u8],
+    from: usize,
+    replies: &mut [u8],
+) -> Fed
+    requires { Held z store.old × (carry_bytes ≤ length carry.old) × (from ≤ length piece.now) × (length piece.now ≤ most_request_bytes)
+        × (length head.now ≤ longest_record) × (base + length piece.now ≤ last_offset) }
+    ensures { FedOn z store.old store.new carry.old carry.new replies.old replies.new
+        ((parse head.now).requests ++ (parse_from piece.now from).requests)
+        (left_by base piece.now (parse_from piece.now from).end) result }
+{
+    let first = wire::survey_all(head);
+    let rest = wire::survey_from(piece, from);
+    let room = first.room + rest.room;
+    if replies.len() < room {
+        return Fed::Refused(Turned::NoRoom(room as u64));
+    }
+    let out = run_both(store, z, head, piece, from, replies);
+    let end = base + rest.at as u64;
+    let stop = rest.stop;
+    match stop {
+        Stop::Unknown => {
+            carry::put(carry, end, true, piece, piece.len());
+            Fed::Stopped(out, end)
+        }
+        Stop::Cut => go_on(carry, end, piece, rest.at, out),
+        Stop::Whole => go_on(carry, end, piece, rest.at, out),
+    }
+}
+
+// A feed of a stream that goes on: the record that was cut is put together with the piece's first bytes.
+pub fn feed_going(
+    store: &mut [u8],
+    z: Shape,
+    carry: &mut [u8],
+    offset: u64,
+    count: usize,
+    piece: &[u8],
+    replies: &mut [u8],
+) -> Fed
+    requires { Held z store.old × Brings carry.old (Brought.Going offset count) × (offset + count + length piece.now ≤ last_offset)
+        × (length piece.now ≤ most_request_bytes) }
+    ensures { FedOn z store.old store.new carry.old carry.new replies.old replies.new
+        (parse (kept_in carry.old count ++ piece.now)).requests
+        (left_by offset (kept_in carry.old count ++ piece.now) (parse (kept_in carry.old count ++ piece.now)).end) result }
+{
+    let mut head = [0u8; carry::HEAD_BYTES];
+    let joined = carry::join(carry, count, piece, &mut head);
+    match joined {
+        Head::Cut(n) => {
+            carry::put(carry, offset, false, &head[0..n], 0);
+            Fed::Done(0)
+        }
+        Head::Unknown => {
+            carry::put(carry, offset, true, piece, piece.len());
+            Fed::Stopped(0, offset)
+        }
+        Head::Whole(n) => feed_whole(
+            store,
+            z,
+            carry,
+            offset + count as u64,
+            &head[0..n],
+            piece,
+            n - count,
+            replies,
+        ),
+    }
 }

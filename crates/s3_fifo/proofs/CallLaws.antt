@@ -1,36 +1,68 @@
--- The laws of a whole call: what is asked before it, each answer, and the verdict that it is.
+-- The laws of a whole call: each answer, and the verdict that it is.
 -- Assumes nothing.
-use mathlib.Core.Path.{◌≡◌, refl, sym, ap, ◌∙◌, subst}
+use mathlib.Core.Path.{◌≡◌, refl, sym, ap, ◌∙◌}
+use mathlib.Core.Bool.{true}
 use mathlib.Core.List.{List, ◌++◌}
 use Prim.Native.Nat.{ℕ, ◌≤◌, ◌<◌}
 use native.Mathlib.Omega.{arith}
 use native.Mathlib.Nat.{zero-add}
 use lib.ListN.{length, drop}
+use borrow.Author.Tests.{lt-ltb, le-ltb}
 use Rattle.nodes.specs.Nodes.{used}
 use Rattle.nodes.specs.declared.Shape.{Shape}
 use Rattle.nodes.proofs.NodesLaws.{cols-rest}
 use Rattle.rules.specs.State.{State}
 use Rattle.rules.specs.Records.{Request}
 use Rattle.rules.specs.Requests.{run}
-use Rattle.rules.specs.Bytes.{parse_from, parse, encode_all}
-use Rattle.rules.specs.Refusals.{store_bytes}
-use Rattle.rules.specs.Verdict.{turned_away, short, damaged, reads, call}
-use Rattle.wire.specs.Wire.{splice}
+use Rattle.rules.specs.Bytes.{End, whole, unknown_at, cut_at, parse_from, parse, room_for, encode_all}
+use Rattle.rules.specs.Refusals.{store_bytes, most_request_bytes, broken, broken_at}
+use Rattle.rules.specs.Verdict.{short, damaged, reads, call}
+use Rattle.wire.specs.declared.Stop.{Stop}
+use Rattle.wire.specs.declared.Stop.TheVariants.{Whole, Unknown, Cut}
+use Rattle.wire.specs.declared.Survey.{Survey}
+use Rattle.wire.specs.Wire.{end_at, stop_of, surveyed, splice}
 use Rattle.store.specs.Holds.{state_in, shape_for, Held}
 use Rattle.store.proofs.HoldsLaws.{held-holds, limits-shown}
 use Rattle.soundness.specs.declared.Checked.{Checked}
 use Rattle.soundness.specs.declared.Checked.TheVariants.{Sound as Sound·, Damaged}
 use Rattle.soundness.specs.Checks.{Checks}
 use Rattle.rules.specs.declared.Turned.{Turned}
-use Rattle.rules.specs.declared.Turned.TheVariants.{ShortStore, DamagedStore}
+use Rattle.rules.specs.declared.Turned.TheVariants.{ShortStore, DamagedStore, LongRequests, BadRecord, NoRoom}
 use Rattle.wire.specs.CarriedOut.{HasRoom}
 use Rattle.s3_fifo.specs.declared.Ran.TheVariants.{Done, Refused}
 use Rattle.runs.specs.Runs.{Runs}
-use Rattle.judging.specs.declared.Ready.{Ready}
-use Rattle.judging.specs.declared.Ready.TheVariants.{Go, Refused as Turned·}
-use Rattle.judging.specs.Judging.{Judges}
-use Rattle.s3_fifo.specs.Ready.{ReadyBy, Readies}
+use Rattle.runs.proofs.PieceLaws.{all_end}
+use Rattle.s3_fifo.specs.Away.{TurnsAway}
 use Rattle.s3_fifo.specs.Calls.{gave, Settled, Called}
+
+-- ---- what the survey says of the verdict's rows
+
+-- a record is no record, and its offset is where the walk ended
+broken-end : (e : End) (n : ℕ) → (stop_of e ≡ Whole → ⊥) → (broken e ≡ true) × (broken_at e ≡ end_at n e)
+broken-end whole n h = absurd (h refl)
+broken-end (unknown_at i) n h = (refl, refl)
+broken-end (cut_at i) n h = (refl, refl)
+
+module _ {v : Survey} (q : List ℕ) (g : v ≡ surveyed (length q) (parse q)) where
+  room-is : v.room ≡ room_for (parse q).requests
+  room-is = ap (λ (y : Survey). y.room) g
+
+  pub survey_whole : {t : Stop} → t ≡ v.stop → t ≡ Whole → (parse q).end ≡ whole
+  survey_whole e h = all_end (parse q).end (ap (λ (y : Survey). y.stop) (sym g) ∙ sym e ∙ h)
+
+  pub survey-ready : {p : List ℕ} → v.room ≤ length p → HasRoom (parse_from q 0).requests p 0
+  unfolding parse
+  survey-ready b = record { within = omega arith; room = omega (arith, room-is) }
+
+-- ---- the store is turned away
+
+pub called-short : {s : List ℕ} → length s < store_bytes → (q p : List ℕ) → Called s q p (Refused ShortStore) s p
+unfolding call
+called-short h q p = record { store = short; store_is = h; leaves = (refl, refl, refl); untouched = λ u. refl }
+
+pub called-damaged : {s : List ℕ} → store_bytes ≤ length s → {r : Checked} → Checks s r → r ≡ Damaged → (q p : List ℕ) → Called s q p (Refused DamagedStore) s p
+unfolding call
+called-damaged b c e q p = record { store = damaged; store_is = (b, c.damaged e); leaves = (refl, refl, refl); untouched = λ u. refl }
 
 -- ---- what a run from the front of the reply buffer leaves
 
@@ -51,54 +83,76 @@ module _ {z : Shape} {s s' : List ℕ} {rs : List Request} {p p' : List ℕ} {n 
       let bs : List ℕ = encode_all (run (state_in z s) rs).replies in
       (x.carried.count ∙ zero-add (length bs), x.carried.replies ∙ ap (λ (k : ℕ). bs ++ drop k p) (zero-add (length bs)))
 
--- ---- what is asked of the store, and then of the requests
+-- ---- a sound store
 
-pub ready-short : {s : List ℕ} → length s < store_bytes → (q : List ℕ) (n : ℕ) → Readies s q n (Turned· ShortStore)
-unfolding call
-ready-short h q n = record { store = short; store_is = h; by = refl }
+pub checked-held : {s : List ℕ} {r : Checked} {z : Shape} → Checks s r → r ≡ Sound· z → Held z s
+checked-held {z = z} c e = c.sound z e
 
-module _ {s : List ℕ} (b : store_bytes ≤ length s) {r : Checked} (c : Checks s r) (q : List ℕ) (n : ℕ) where
-  pub ready-damaged : r ≡ Damaged → Readies s q n (Turned· DamagedStore)
+module _ {z : Shape} {s : List ℕ} (b : store_bytes ≤ length s) (h : Held z s) (q p : List ℕ) where
+  pub called-long : most_request_bytes < length q → Called s q p (Refused LongRequests) s p
   unfolding call
-  ready-damaged e = record { store = damaged; store_is = (b, c.damaged e); by = refl }
-
-  pub ready-sound : {z : Shape} → r ≡ Sound· z → (a : Ready) → Judges z q n a → Readies s q n a
-  ready-sound {z} e (Turned· t) x =
-      record { store = reads (state_in z s); store_is = (b, held-holds (c.sound z e)); by = x.by (state_in z s) }
-  ready-sound {z} e (Go y) x =
-      let h : Held z s = c.sound z e in
-      subst (λ (w : Shape). Readies s q n (Go w)) (sym x.by.0)
-      (record { store = reads (state_in z s); store_is = (b, held-holds h); by = (refl, h, x.by.1, x.by.2 (state_in z s)) })
-
--- ---- a call
-
--- it goes on
-module _ {s q : List ℕ} {m : ℕ} {a : Ready} (x : Readies s q m a) {z : Shape} (g : a ≡ Go z) where
-  pub goes : ReadyBy s x.store q m (Go z)
-  goes = subst (ReadyBy s x.store q m) g x.by
-
-  pub ready_held : Held z s
-  ready_held = goes.1
-
-  pub ready-room : {p : List ℕ} → m ≡ length p → HasRoom (parse_from q 0).requests p 0
-  unfolding parse
-  ready-room l = record { within = omega arith; room = omega (arith, goes.2) }
-
-  unfoldable pub called-ran : {p : List ℕ} → m ≡ length p → {s' p' : List ℕ} {n : ℕ} → Runs z s s' (parse_from q 0).requests p p' 0 n
-      → Called s q p (Done n) s' p'
-  unfolding parse
-  called-ran l y =
-      let w = runs-written y in
+  called-long l =
       record {
-        store = x.store;
-        store_is = x.store_is;
-        leaves = rw (← l, goes.3) (ap (λ (k : ℕ). gave k) w.0, runs-settled y, w.1);
-        untouched = y.untouched;
+        store = reads (state_in z s);
+        store_is = (b, held-holds h);
+        leaves = rw (lt-ltb most_request_bytes (length q) l) (refl, refl, refl);
+        untouched = λ u. refl;
       }
 
--- or is turned away
-pub called-away : {s q : List ℕ} {m : ℕ} {a : Ready} → Readies s q m a → {t : Turned} → a ≡ Turned· t → {p : List ℕ} → m ≡ length p
-    → Called s q p (Refused t) s p
-called-away {s} {q} {m} x {t} g l =
-    let v : call x.store q m ≡ turned_away t = subst (ReadyBy s x.store q m) g x.by in
-    record { store = x.store; store_is = x.store_is; leaves = rw (← l, v) (refl, refl, refl); untouched = λ u. refl }
+  module _ (l : length q ≤ most_request_bytes) {v : Survey} (g : v ≡ surveyed (length q) (parse q)) {t : Stop} (e : t ≡ v.stop) where
+    called-bad : (t ≡ Whole → ⊥) → {i : ℕ} → i ≡ v.at → Called s q p (Refused (BadRecord i)) s p
+    unfolding call
+    called-bad n {i} d =
+        let w = broken-end (parse q).end (length q) (λ k. n (e ∙ ap (λ (y : Survey). y.stop) g ∙ k)) in
+        let o : broken_at (parse q).end ≡ i = w.1 ∙ sym (d ∙ ap (λ (y : Survey). y.at) g) in
+        record {
+          store = reads (state_in z s);
+          store_is = (b, held-holds h);
+          leaves = rw (le-ltb most_request_bytes (length q) l, w.0, o) (refl, refl, refl);
+          untouched = λ u. refl;
+        }
+
+    pub called-unknown : t ≡ Unknown → {i : ℕ} → i ≡ v.at → Called s q p (Refused (BadRecord i)) s p
+    called-unknown w d = called-bad (λ k. let y : Unknown ≡ Whole = sym w ∙ k in let n : ◌≡◌ {A = ℕ} 0 1 = cc in omega arith) d
+
+    pub called-cut : t ≡ Cut → {i : ℕ} → i ≡ v.at → Called s q p (Refused (BadRecord i)) s p
+    called-cut w d = called-bad (λ k. let y : Cut ≡ Whole = sym w ∙ k in let n : ◌≡◌ {A = ℕ} 0 1 = cc in omega arith) d
+
+    module _ (all : t ≡ Whole) where
+      pub called-room : length p < v.room → {i : ℕ} → i ≡ v.room → Called s q p (Refused (NoRoom i)) s p
+      unfolding call
+      called-room k {i} d =
+          let w = survey_whole q g e all in
+          let o : room_for (parse q).requests ≡ i = sym (d ∙ room-is q g) in
+          record {
+            store = reads (state_in z s);
+            store_is = (b, held-holds h);
+            leaves = rw (le-ltb most_request_bytes (length q) l, w, o, lt-ltb (length p) i (omega arith)) (refl, refl, refl);
+            untouched = λ u. refl;
+          }
+
+      pub called-ran : v.room ≤ length p → {s' p' : List ℕ} {n : ℕ} → Runs z s s' (parse_from q 0).requests p p' 0 n → Called s q p (Done n) s' p'
+      unfolding call parse
+      called-ran k {s'} {p'} {n} x =
+          let w = survey_whole q g e all in
+          let y = runs-written x in
+          record {
+            store = reads (state_in z s);
+            store_is = (b, held-holds h);
+            leaves =
+                rw (le-ltb most_request_bytes (length q) l, w, le-ltb (length p) (room_for (parse q).requests) (omega (arith, room-is q g)))
+                (ap (λ (k : ℕ). gave k) y.0, runs-settled x, y.1);
+            untouched = x.untouched;
+          }
+
+-- ---- requests that are too long
+
+module _ {s q : List ℕ} (b : store_bytes ≤ length s) {r : Checked} (c : Checks s r) where
+  pub long-damaged : r ≡ Damaged → TurnsAway s q DamagedStore
+  long-damaged e = record { called = called-damaged b c e q }
+
+  pub long-sound : {z : Shape} → r ≡ Sound· z → most_request_bytes < length q → TurnsAway s q LongRequests
+  long-sound e l = record { called = λ p. called-long b (checked-held c e) q p l }
+
+pub turned-away : {s q : List ℕ} {t : Turned} → TurnsAway s q t → (p : List ℕ) → Called s q p (Refused t) s p
+turned-away t = t.called

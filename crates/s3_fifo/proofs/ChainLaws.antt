@@ -38,7 +38,7 @@ use Rattle.sizing.proofs.AcceptedLaws.{accepted-fine, accepted-limits}
 use Rattle.store.specs.Holds.{Holds}
 use Rattle.s3_fifo.specs.declared.Creation.TheVariants.{Made}
 use Rattle.s3_fifo.specs.declared.Ran.TheVariants.{Done}
-use Rattle.s3_fifo.specs.declared.Fed.{Fed}
+use Rattle.runs.specs.declared.Fed.{Fed}
 use Rattle.s3_fifo.specs.Feeds.{fed_says, replies_in, carried_out, FollowsFeed, FedAs}
 use Rattle.s3_fifo.specs.Streams.{NotTurned}
 use Rattle.s3_fifo.specs.Calls.{Said, gave, halted, turned, ran_says, ReadsAs, Follows, Created, Called}

@@ -1,23 +1,21 @@
 -- The laws of a feed and a finish: each answer, and the verdict that it is.
 -- Assumes nothing.
-use mathlib.Core.Path.{◌≡◌, refl, sym, ap, ◌∙◌, subst}
+use mathlib.Core.Path.{◌≡◌, refl, sym, ap, ap₂, ◌∙◌, subst}
 use mathlib.Core.Bool.{true, false}
 use mathlib.Core.List.{List, [], ◌++◌}
-use Prim.Native.Nat.{ℕ, zero, suc, ◌-◌, ◌≤◌, ◌<◌}
+use Prim.Native.Nat.{ℕ, zero, suc, ◌+◌, ◌-◌, ◌≤◌, ◌<◌}
 use native.Mathlib.Omega.{arith}
-use native.Mathlib.Nat.{sub-zero}
 use lib.ListN.{length, take, drop}
+use borrow.Author.Tests.{lt-ltb, le-ltb}
 use Rattle.nodes.specs.declared.Shape.{Shape}
 use Rattle.rules.specs.declared.Turned.{Turned}
-use Rattle.rules.specs.declared.Turned.TheVariants.{ShortStore, DamagedStore, BadRecord, BadCarry}
+use Rattle.rules.specs.declared.Turned.TheVariants.{ShortStore, DamagedStore, LongRequests, BadRecord, BadCarry}
 use Rattle.rules.specs.Records.{Request}
-use Rattle.rules.specs.Bytes.{parse_from, parse, room_for}
-use Rattle.rules.specs.Refusals.{store_bytes}
+use Rattle.rules.specs.Bytes.{parse, room_for}
+use Rattle.rules.specs.Refusals.{number_of, detail_of, store_bytes, most_request_bytes}
 use Rattle.rules.specs.Verdict.{short, damaged, reads}
-use Rattle.rules.specs.Carry.{Carry, opening, unfit, carries}
-use Rattle.rules.specs.Feed.{flow, fed, completed_of, feed, finish_on}
-use Rattle.rules.specs.Requests.{run}
-use Rattle.wire.specs.CarriedOut.{HasRoom}
+use Rattle.rules.specs.Carry.{Carry, last_offset, left_by, unfit, carries}
+use Rattle.rules.specs.Feed.{feed_on, completed, feed, finish_on}
 use Rattle.rules.proofs.ReachLaws.{some-kept}
 use Rattle.carry.specs.declared.Brought.{Brought}
 use Rattle.carry.specs.declared.Brought.TheVariants.{Going, Stopped as Halted, Unfit}
@@ -26,140 +24,183 @@ use Rattle.carry.proofs.CarriesLaws as lent
 use Rattle.store.specs.Holds.{state_in, Held}
 use Rattle.store.proofs.HoldsLaws.{held-holds}
 use Rattle.soundness.specs.declared.Checked.{Checked}
-use Rattle.soundness.specs.declared.Checked.TheVariants.{Sound as Sound·, Damaged}
+use Rattle.soundness.specs.declared.Checked.TheVariants.{Damaged}
 use Rattle.soundness.specs.Checks.{Checks}
-use Rattle.s3_fifo.specs.declared.Fed.{Fed}
-use Rattle.s3_fifo.specs.declared.Fed.TheVariants.{Done, Stopped, Refused}
+use Rattle.runs.specs.declared.Fed.{Fed}
+use Rattle.runs.specs.declared.Fed.TheVariants.{Done, Stopped, Refused}
 use Rattle.s3_fifo.proofs.CallLaws.{runs-settled, runs-written}
 use Rattle.s3_fifo.specs.declared.Finish.TheVariants.{Complete, Refused as Broken}
-use Rattle.runs.specs.Runs.{Runs}
-use Rattle.pieces.specs.declared.Due.{Due}
-use Rattle.pieces.specs.declared.Due.TheVariants.{Runs as Runs·, Stops as Stops·, Refused as NotDue}
-use Rattle.pieces.specs.Pieces.{TakenIn, DueBy, Takes}
-use Rattle.s3_fifo.specs.Feeds.{fed_says, said_with, FedAs, verdict_says, FinishAs}
-use Rattle.s3_fifo.specs.Ready.{TakesBy, TakesIn}
+use Rattle.runs.specs.Runs.{FedOn}
+use Rattle.s3_fifo.specs.Calls.{gave, halted, turned}
+use Rattle.s3_fifo.specs.Feeds.{FedAs, verdict_says, FinishAs}
 
--- ---- what is asked of the store, and then the piece is taken in
+-- ---- the store is turned away
 
--- nothing has to be known of the carried record where the store is turned away: its rows come first
-pub takes_short : {s : List ℕ} → length s < store_bytes → (c q h : List ℕ) (n : ℕ) {r : Brought} → Brings c r → TakesIn s c q n (NotDue ShortStore) c h
+-- nothing is known of the carried record, and nothing has to be: the rows of the store come first
+pub fed-short : {s : List ℕ} → length s < store_bytes → (c q p : List ℕ) → {r : Brought} → Brings c r → FedAs s c q p (Refused ShortStore) s c p
 unfolding feed
-takes_short l c q h n {r} b =
-    record { store = short; store_is = l; carry = carried_by c r; carry-is = b.is; next = opening; by = (refl, refl) }
+fed-short h c q p {r} b =
+    record { store = short; store_is = h; carry = carried_by c r; carry-is = b.is; leaves = (refl, refl, refl, refl); untouched = λ u. refl }
 
-module _ {s : List ℕ} (l : store_bytes ≤ length s) {k : Checked} (a : Checks s k) where
-  pub takes_damaged : k ≡ Damaged → (c q h : List ℕ) (n : ℕ) {r : Brought} → Brings c r → TakesIn s c q n (NotDue DamagedStore) c h
-  unfolding feed
-  takes_damaged e c q h n {r} b =
-      record { store = damaged; store_is = (l, a.damaged e); carry = carried_by c r; carry-is = b.is; next = opening; by = (refl, refl) }
-
-  module _ {z : Shape} (e : k ≡ Sound· z) where
-    held : Held z s
-    held = a.sound z e
-
-    on : (r : Brought) (c c' q h' : List ℕ) (n : ℕ) (d : Due) (m : Carry) → DueBy z (carried_by c r) c c' q h' n m d
-        → TakesBy s (reads (state_in z s)) (carried_by c r) c c' q h' n m d
-    on r c c' q h' n (NotDue t) m x = (x.0, x.1 (state_in z s))
-    on r c c' q h' n (Runs· y i j) m x =
-        subst (λ (w : Shape). TakesBy s (reads (state_in z s)) (carried_by c r) c c' q h' n m (Runs· w i j)) (sym x.0)
-        (x.1, refl, held, x.2, x.3 (state_in z s))
-    on r c c' q h' n (Stops· y i j o) m x =
-        subst (λ (w : Shape). TakesBy s (reads (state_in z s)) (carried_by c r) c c' q h' n m (Stops· w i j o)) (sym x.0)
-        ((x.1, x.2), refl, held, x.3, x.4 (state_in z s))
-
-    pub takes_sound : {r : Brought} {c c' q h' : List ℕ} {n : ℕ} {d : Due} → Brings c r → Takes z (carried_by c r) c c' q h' n d → TakesIn s c q n d c' h'
-    takes_sound {r} {c} {c'} {q} {h'} {n} {d} b x =
-        record {
-          store = reads (state_in z s);
-          store_is = (l, held-holds held);
-          carry = carried_by c r;
-          carry-is = b.is;
-          next = x.next;
-          by = on r c c' q h' n d x.next x.due;
-        }
-
--- ---- a feed
-
-pub fed-away : {s c q c' h' : List ℕ} {l : ℕ} {d : Due} → TakesIn s c q l d c' h' → {t : Turned} → d ≡ NotDue t → {p : List ℕ} → l ≡ length p
-    → FedAs s c q p (Refused t) s c' p
-fed-away {s} {c} {q} {c'} {h'} {l} x {t} e f =
-    let y = subst (TakesBy s x.store x.carry c c' q h' l x.next) e x.by in
+pub fed-damaged : {s : List ℕ} → store_bytes ≤ length s → {k : Checked} → Checks s k → k ≡ Damaged → (c q p : List ℕ) → {r : Brought} → Brings c r
+    → FedAs s c q p (Refused DamagedStore) s c p
+unfolding feed
+fed-damaged l a e c q p {r} b =
     record {
-      store = x.store;
-      store_is = x.store_is;
-      carry = x.carry;
-      carry-is = x.carry-is;
-      leaves = rw (← f, y.1) (refl, refl, y.0, refl);
+      store = damaged;
+      store_is = (l, a.damaged e);
+      carry = carried_by c r;
+      carry-is = b.is;
+      leaves = (refl, refl, refl, refl);
       untouched = λ u. refl;
     }
 
--- it goes on: what is due is a run
-module _ {s c q c' h' : List ℕ} {l : ℕ} {d : Due} (x : TakesIn s c q l d c' h') {z : Shape} {m i : ℕ} where
-  module _ (k : Carry) (held : Held z s) (t : TakenIn c c' q h' l (completed_of x.carry q) k m i) where
-    pub requests : (parse (take (m - 0) h')).requests ++ (parse_from q i).requests ≡ completed_of x.carry q
-    requests = ap (λ (j : ℕ). (parse (take j h')).requests ++ (parse_from q i).requests) (sub-zero m) ∙ t.requests
+-- ---- a sound store
 
-    room : {p : List ℕ} → l ≡ length p → HasRoom ((parse (take (m - 0) h')).requests ++ (parse_from q i).requests) p 0
-    room f = record { within = omega arith; room = omega (arith, t.room, ap room_for requests) }
+module _ {z : Shape} {s : List ℕ} (l : store_bytes ≤ length s) (h : Held z s) {c : List ℕ} {r : Brought} (b : Brings c r) (q p : List ℕ) where
+  pub fed-unfit : r ≡ Unfit → FedAs s c q p (Refused BadCarry) s c p
+  unfolding feed
+  fed-unfit e =
+      record {
+        store = reads (state_in z s);
+        store_is = (l, held-holds h);
+        carry = unfit;
+        carry-is = rw e at b.is;
+        leaves = (refl, refl, refl, refl);
+        untouched = λ u. refl;
+      }
 
-    pub due-run : {p s' p' : List ℕ} {n : ℕ} → Runs z s s' ((parse (take (m - 0) h')).requests ++ (parse_from q i).requests) p p' 0 n
-        → Runs z s s' (completed_of x.carry q) p p' 0 n
-    due-run {p} {s'} {p'} {n} y = subst (λ (rs : List Request). Runs z s s' rs p p' 0 n) requests y
+  -- the stream had stopped before
+  module _ {i : ℕ} (e : r ≡ Halted i) where
+    abbrev stopped-at : Carry
+    stopped-at = record { offset = i; kept = []; stopped = true }
 
-    -- what the verdict leaves
-    unfoldable due-fed : feed x.store x.carry q l ≡ fed (flow k (run (state_in z s) (completed_of x.carry q)))
-        → {p s' p' : List ℕ} {n : ℕ} → l ≡ length p → (r : Fed)
-        → fed_says r ≡ said_with k n → Runs z s s' (completed_of x.carry q) p p' 0 n → FedAs s c q p r s' c' p'
-    due-fed v f r a y =
-        let w = runs-written y in
+    pub stopped-long : most_request_bytes < length q → FedAs s c q p (Refused LongRequests) s c p
+    unfolding feed
+    stopped-long m =
         record {
-          store = x.store;
-          store_is = x.store_is;
-          carry = x.carry;
-          carry-is = x.carry-is;
-          leaves = rw (← f, v) (a ∙ ap (said_with k) w.0, runs-settled y, t.put, w.1);
-          untouched = y.untouched;
+          store = reads (state_in z s);
+          store_is = (l, held-holds h);
+          carry = carries stopped-at;
+          carry-is = rw e at b.is;
+          leaves = rw (lt-ltb most_request_bytes (length q) m) (refl, refl, refl, refl);
+          untouched = λ u. refl;
         }
 
-  module _ (e : d ≡ Runs· z m i) where
-    pub runs_by : TakesBy s x.store x.carry c c' q h' l x.next (Runs· z m i)
-    runs_by = subst (TakesBy s x.store x.carry c c' q h' l x.next) e x.by
+    pub stopped-before : length q ≤ most_request_bytes → FedAs s c q p (Refused (BadRecord i)) s c p
+    unfolding feed
+    stopped-before m =
+        record {
+          store = reads (state_in z s);
+          store_is = (l, held-holds h);
+          carry = carries stopped-at;
+          carry-is = rw e at b.is;
+          leaves = rw (le-ltb most_request_bytes (length q) m) (refl, refl, refl, refl);
+          untouched = λ u. refl;
+        }
 
-    pub runs-held : Held z s
-    runs-held = runs_by.2
+  -- it goes on
+  module _ {o n : ℕ} (e : r ≡ Going o n) where
+    pub going_brings : Brings c (Going o n)
+    going_brings = subst (Brings c) e b
 
-    pub runs-part : m ≤ length h'
-    runs-part = runs_by.3.part
+    abbrev going : Carry
+    going = record { offset = o; kept = kept_in c n; stopped = false }
 
-    pub runs-ready : {p : List ℕ} → l ≡ length p → HasRoom ((parse (take (m - 0) h')).requests ++ (parse_from q i).requests) p 0
-    runs-ready f = room x.next runs-held runs_by.3 f
+    pub going_sub : n ≤ last_offset - o
+    going_sub = let f = lent.going_ends going_brings refl in omega arith
 
-    unfoldable pub fed-runs : {p s' p' : List ℕ} {n : ℕ} → l ≡ length p → Runs z s s' ((parse (take (m - 0) h')).requests ++ (parse_from q i).requests) p p' 0 n
-        → FedAs s c q p (Done n) s' c' p'
-    unfolding due-fed
-    fed-runs {n = n} f y =
-        let k = x.next in
-        due-fed k runs-held runs_by.3 runs_by.4 f (Done n) (rw runs_by.0) (due-run k runs-held runs_by.3 y)
+    pub going_over : last_offset - o - n < length q → FedAs s c q p (Refused BadCarry) s c p
+    unfolding feed
+    going_over m =
+        let k = lent.going_kept going_brings refl in
+        let f = lent.going_ends going_brings refl in
+        record {
+          store = reads (state_in z s);
+          store_is = (l, held-holds h);
+          carry = carries going;
+          carry-is = going_brings.is;
+          leaves = rw (lt-ltb last_offset (o + length (kept_in c n) + length q) (omega arith)) (refl, refl, refl, refl);
+          untouched = λ u. refl;
+        }
 
-  module _ {o : ℕ} (e : d ≡ Stops· z m i o) where
-    pub stops-by : TakesBy s x.store x.carry c c' q h' l x.next (Stops· z m i o)
-    stops-by = subst (TakesBy s x.store x.carry c c' q h' l x.next) e x.by
+    module _ (m : length q ≤ last_offset - o - n) where
+      pub going_within : o + n + length q ≤ last_offset
+      going_within = let f = lent.going_ends going_brings refl in omega arith
 
-    pub stops-held : Held z s
-    stops-held = stops-by.2
+      fits : o + length (kept_in c n) + length q ≤ last_offset
+      fits = let k = lent.going_kept going_brings refl in let g = going_within in omega arith
 
-    pub stops-part : m ≤ length h'
-    stops-part = stops-by.3.part
+      pub going_long : most_request_bytes < length q → FedAs s c q p (Refused LongRequests) s c p
+      unfolding feed
+      going_long m =
+          record {
+            store = reads (state_in z s);
+            store_is = (l, held-holds h);
+            carry = carries going;
+            carry-is = going_brings.is;
+            leaves = rw (le-ltb last_offset (o + length (kept_in c n) + length q) fits, lt-ltb most_request_bytes (length q) m) (refl, refl, refl, refl);
+            untouched = λ u. refl;
+          }
 
-    pub stops-ready : {p : List ℕ} → l ≡ length p → HasRoom ((parse (take (m - 0) h')).requests ++ (parse_from q i).requests) p 0
-    stops-ready f = room x.next stops-held stops-by.3 f
+      abbrev asked : List Request
+      asked = (parse (kept_in c n ++ q)).requests
 
-    unfoldable pub fed-stops : {p s' p' : List ℕ} {n : ℕ} → l ≡ length p → Runs z s s' ((parse (take (m - 0) h')).requests ++ (parse_from q i).requests) p p' 0 n
-        → FedAs s c q p (Stopped n o) s' c' p'
-    unfolding due-fed
-    fed-stops {n = n} f y =
-        let k = x.next in
-        due-fed k stops-held stops-by.3 stops-by.4 f (Stopped n o) (rw (stops-by.0.0, stops-by.0.1)) (due-run k stops-held stops-by.3 y)
+      abbrev next : Carry
+      next = left_by o (kept_in c n ++ q) (parse (kept_in c n ++ q)).end
+
+      module _ (few : length q ≤ most_request_bytes) {s' c' p' : List ℕ} where
+        pub going-fed : (a : Fed) → FedOn z s s' c c' p p' asked next a → FedAs s c q p a s' c' p'
+        unfolding feed feed_on completed
+        going-fed (Refused t) f =
+            let x = f.fed in
+            record {
+              store = reads (state_in z s);
+              store_is = (l, held-holds h);
+              carry = carries going;
+              carry-is = going_brings.is;
+              leaves = rw (
+                le-ltb last_offset (o + length (kept_in c n) + length q) fits,
+                le-ltb most_request_bytes (length q) few,
+                lt-ltb (length p) (room_for asked) x.1,
+              )
+                  (ap (λ (t : Turned). turned (number_of t) (detail_of t)) x.0, x.2, x.3, x.4);
+              untouched = λ u. x.2;
+            }
+        going-fed (Done k) f =
+            let x = f.fed.1 in
+            let y = runs-written x.runs in
+            record {
+              store = reads (state_in z s);
+              store_is = (l, held-holds h);
+              carry = carries going;
+              carry-is = going_brings.is;
+              leaves = rw (
+                le-ltb last_offset (o + length (kept_in c n) + length q) fits,
+                le-ltb most_request_bytes (length q) few,
+                le-ltb (length p) (room_for asked) x.room,
+                f.fed.0,
+              )
+                  (ap (λ (i : ℕ). gave i) y.0, runs-settled x.runs, x.put, y.1);
+              untouched = x.runs.untouched;
+            }
+        going-fed (Stopped k i) f =
+            let x = f.fed.2 in
+            let y = runs-written x.runs in
+            record {
+              store = reads (state_in z s);
+              store_is = (l, held-holds h);
+              carry = carries going;
+              carry-is = going_brings.is;
+              leaves = rw (
+                le-ltb last_offset (o + length (kept_in c n) + length q) fits,
+                le-ltb most_request_bytes (length q) few,
+                le-ltb (length p) (room_for asked) x.room,
+                f.fed.0,
+              )
+                  (ap₂ (λ (a b : ℕ). halted a b) y.0 (sym f.fed.1), runs-settled x.runs, x.put, y.1);
+              untouched = x.runs.untouched;
+            }
 
 -- ---- a finish
 

@@ -1,11 +1,8 @@
 pub mod CreateLaws
 pub mod CallLaws
 pub mod FeedLaws
-pub mod CountersValue
-pub mod CountedLaws
 pub mod OnceLaws
 pub mod WentLaws
 pub mod ChainLaws
-pub mod TallyLaws
 pub mod StreamLaws
 pub mod PromisesLaws

@@ -21,8 +21,8 @@ use Rattle.s3_fifo.specs.declared.Creation.{Creation}
 use Rattle.s3_fifo.specs.declared.Creation.TheVariants.{Made, Refused as NotMade}
 use Rattle.s3_fifo.specs.declared.Ran.{Ran}
 use Rattle.s3_fifo.specs.declared.Ran.TheVariants.{Done, Refused}
-use Rattle.s3_fifo.specs.declared.Fed.{Fed}
-use Rattle.s3_fifo.specs.declared.Fed.TheVariants.{Done as Given, Stopped, Refused as Away}
+use Rattle.runs.specs.declared.Fed.{Fed}
+use Rattle.runs.specs.declared.Fed.TheVariants.{Done as Given, Stopped, Refused as Away}
 use Rattle.s3_fifo.specs.declared.Finish.{Finish}
 use Rattle.s3_fifo.specs.declared.Finish.TheVariants.{Complete, Refused as Broken}
 use Rattle.s3_fifo.specs.Feeds.{fed_says, finish_says, said_with, FollowsFeed, FedAs, verdict_says, FinishAs}

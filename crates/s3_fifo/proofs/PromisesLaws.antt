@@ -5,7 +5,6 @@ use Rattle.s3_fifo.specs.Promises.{Promises}
 use Rattle.s3_fifo.proofs.OnceLaws.{created-once, called-once, fed-once, finished-once}
 use Rattle.s3_fifo.proofs.WentLaws.{fed-intact, fed-fit}
 use Rattle.s3_fifo.proofs.StreamLaws.{cut_anywhere, as_one-call, finish-says}
-use Rattle.s3_fifo.proofs.TallyLaws.{counted-once, fed-counted-once, tally_chain, counts-add-up}
 use Rattle.s3_fifo.proofs.ChainLaws.{created-intact, called-intact, chain-keeps, full-within}
 
 pub promises : Promises
@@ -24,10 +23,6 @@ promises =
       cut_anywhere = cut_anywhere;
       as_one-call = as_one-call;
       finish-says = finish-says;
-      counted-once = counted-once;
-      fed-counted-once = fed-counted-once;
-      tally_chain = tally_chain;
-      counts-add-up = counts-add-up;
       chain-keeps = chain-keeps;
       full-within = full-within;
     }

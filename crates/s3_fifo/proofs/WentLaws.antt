@@ -19,7 +19,7 @@ use Rattle.rules.specs.Feed.{Flow, still, on_carry, feed_on, completed, runs_ove
 use Rattle.rules.proofs.ReachLaws.{feed-could}
 use Rattle.rules.proofs.CarriedLaws.{carry-written}
 use Rattle.store.specs.Holds.{Holds}
-use Rattle.s3_fifo.specs.declared.Fed.{Fed}
+use Rattle.runs.specs.declared.Fed.{Fed}
 use Rattle.s3_fifo.specs.Calls.{Said, gave, halted, turned, ReadsAs}
 use Rattle.s3_fifo.specs.Feeds.{fed_says, replies_in, said_with, FollowsFeed, FedAs}
 use Rattle.s3_fifo.specs.Streams.{NotTurned}
@@ -106,7 +106,7 @@ goes_on {s} {c} {q} {p} {s'} {c'} {p'} r {σ} {k} h b x f g =
 
 -- ---- a feed that goes on was lent a sound store and a record that a feed could have left
 
-pub record LentSound (x : Reads) (y : Carried) : Type 0 where
+pub record Lent (x : Reads) (y : Carried) : Type 0 where
   pub state : State
   pub carry : Carry
   pub store_is : x ≡ reads state
@@ -116,14 +116,14 @@ pub record LentSound (x : Reads) (y : Carried) : Type 0 where
 away : (why : Turned) (a : Said) → (number_of why ≡ 9 → ⊥) → NotTurned a → a ≡ turned (number_of why) (detail_of why) → ⊥
 away why a w g e = w (subst NotTurned e g)
 
-lent : (s c q p s' c' p' : List ℕ) (a : Said) → NotTurned a → (x : Reads) (y : Carried) → FollowsFeed (feed x y q (length p)) a s s' c c' p p' → LentSound x y
+lent : (s c q p s' c' p' : List ℕ) (a : Said) → NotTurned a → (x : Reads) (y : Carried) → FollowsFeed (feed x y q (length p)) a s s' c c' p p' → Lent x y
 unfolding feed
 lent s c q p s' c' p' a g short y l = absurd (away ShortStore a (λ e. omega arith) g l.0)
 lent s c q p s' c' p' a g damaged y l = absurd (away DamagedStore a (λ e. omega arith) g l.0)
 lent s c q p s' c' p' a g (reads σ) unfit l = absurd (away BadCarry a (λ e. omega arith) g l.0)
 lent s c q p s' c' p' a g (reads σ) (carries k) l = record { state = σ; carry = k; store_is = refl; carry-is = refl }
 
-pub goes-lent : {s c q p s' c' p' : List ℕ} (r : Fed) (f : FedAs s c q p r s' c' p') → NotTurned (fed_says r) → LentSound f.store f.carry
+pub goes-lent : {s c q p s' c' p' : List ℕ} (r : Fed) (f : FedAs s c q p r s' c' p') → NotTurned (fed_says r) → Lent f.store f.carry
 goes-lent {s} {c} {q} {p} {s'} {c'} {p'} r f g = lent s c q p s' c' p' (fed_says r) g f.store f.carry f.leaves
 
 -- ---- what it left is sound, and its record is none that is refused

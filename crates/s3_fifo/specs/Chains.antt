@@ -18,7 +18,7 @@ use Rattle.store.specs.Holds.{Holds}
 use Rattle.s3_fifo.specs.declared.Creation.TheVariants.{Made}
 use Rattle.s3_fifo.specs.declared.Ran.{Ran}
 use Rattle.s3_fifo.specs.declared.Ran.TheVariants.{Done}
-use Rattle.s3_fifo.specs.declared.Fed.{Fed}
+use Rattle.runs.specs.declared.Fed.{Fed}
 use Rattle.s3_fifo.specs.Calls.{turned, ran_says, Created, Called}
 use Rattle.s3_fifo.specs.Feeds.{fed_says, replies_in, carried_out, FedAs}
 

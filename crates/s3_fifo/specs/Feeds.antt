@@ -6,8 +6,8 @@ use Rattle.rules.specs.Refusals.{number_of, detail_of}
 use Rattle.rules.specs.Verdict.{Verdict, refused, done, Reads}
 use Rattle.rules.specs.Carry.{Carry, carry_bytes, carry_written, Carried, ReadsCarry}
 use Rattle.rules.specs.Feed.{Onward, completed_of, feed, finish_on}
-use Rattle.s3_fifo.specs.declared.Fed.{Fed}
-use Rattle.s3_fifo.specs.declared.Fed.TheVariants.{Done, Stopped, Refused}
+use Rattle.runs.specs.declared.Fed.{Fed}
+use Rattle.runs.specs.declared.Fed.TheVariants.{Done, Stopped, Refused}
 use Rattle.s3_fifo.specs.declared.Finish.{Finish}
 use Rattle.s3_fifo.specs.declared.Finish.TheVariants.{Complete, Refused as Broken}
 use Rattle.s3_fifo.specs.Calls.{Said, gave, halted, turned, ReadsAs, Settled}

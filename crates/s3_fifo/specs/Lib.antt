@@ -1,9 +1,7 @@
 pub mod Calls
-pub mod Ready
+pub mod Away
 pub mod Feeds
-pub mod CountedCalls
 pub mod Once
 pub mod Chains
-pub mod Tallies
 pub mod Streams
 pub mod Promises

@@ -6,7 +6,7 @@ use Rattle.rules.specs.State.{State}
 use Rattle.store.specs.Holds.{shape_for, Holds}
 use Rattle.s3_fifo.specs.declared.Creation.{Creation}
 use Rattle.s3_fifo.specs.declared.Ran.{Ran}
-use Rattle.s3_fifo.specs.declared.Fed.{Fed}
+use Rattle.runs.specs.declared.Fed.{Fed}
 use Rattle.s3_fifo.specs.Calls.{Said, turned, created_says, ran_says}
 use Rattle.s3_fifo.specs.Feeds.{fed_says}
 

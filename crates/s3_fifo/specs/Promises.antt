@@ -1,7 +1,6 @@
 -- What the calls promise, on one page: start here. `promises` (proofs/PromisesLaws.antt) is the theorem that gives it.
--- `Created`, `Called` (Calls.antt), `FedAs`, `FinishAs` (Feeds.antt), `CalledCounted` and `FedCounted` (CountedCalls.antt) are the contracts of
--- `S3FifoCache::create`, `run`, `feed`, `finish`, `run_counted` and `feed_counted`, which ask nothing of their
--- caller: whatever bytes are lent, a call ends, and they hold of its outcome. So what is said here of every outcome that satisfies them is
+-- `Created`, `Called` (Calls.antt), `FedAs` and `FinishAs` (Feeds.antt) are the contracts of `S3FifoCache::create`, `run`, `feed` and `finish`, which ask
+-- nothing of their caller: whatever bytes are lent, a call ends, and they hold of its outcome. So what is said here of every outcome that satisfies them is
 -- said of the calls.
 -- Assumes nothing.
 use Rattle.std.specs.Prelude.{◌≡◌, true, List, ◌∷◌, ◌++◌, ℕ}
@@ -12,23 +11,18 @@ use Rattle.rules.specs.Bytes.{parse}
 use Rattle.rules.specs.Verdict.{damaged}
 use Rattle.rules.specs.Carry.{Carry, opening, could_leave, CarryAs, unfit, ReadsCarry}
 use Rattle.rules.specs.Feed.{glued, ended, Reached}
-use Rattle.rules.specs.Counters.{run_events}
-use Rattle.counters.specs.declared.Counters.{Counters}
-use Rattle.counters.specs.Counting.{CountsUp}
 use Rattle.sizing.specs.declared.Settings.{Settings}
 use Rattle.s3_fifo.specs.declared.Creation.{Creation}
 use Rattle.s3_fifo.specs.declared.Creation.TheVariants.{Made}
 use Rattle.s3_fifo.specs.declared.Ran.{Ran}
 use Rattle.s3_fifo.specs.declared.Ran.TheVariants.{Done}
-use Rattle.s3_fifo.specs.declared.Fed.{Fed}
+use Rattle.runs.specs.declared.Fed.{Fed}
 use Rattle.s3_fifo.specs.declared.Finish.{Finish}
 use Rattle.s3_fifo.specs.Calls.{ReadsAs, Created, Called}
 use Rattle.s3_fifo.specs.Feeds.{fed_says, finish_says, FedAs, verdict_says, FinishAs}
 use Rattle.s3_fifo.specs.Once.{OneCreation, OneCall, OneFeed}
 use Rattle.s3_fifo.specs.Streams.{NotTurned, Stream, OneStream, AsOneCall}
-use Rattle.s3_fifo.specs.CountedCalls.{CalledCounted, FedCounted}
 use Rattle.s3_fifo.specs.Chains.{Chain, Kept, FullWithin}
-use Rattle.s3_fifo.specs.Tallies.{Tally, Lent}
 
 pub record Promises : Type 0 where
   -- demands 1 and 2: a call has one outcome, and after a refusal no byte is another
@@ -53,15 +47,6 @@ pub record Promises : Type 0 where
       → Called s (glued ps) p (Done n) s₁ p₁ → AsOneCall bs s' c' n s₁ p₁
   pub finish-says : {s c bs s' c' : List ℕ} (ps : List (List ℕ)) → CarryAs c opening → Stream s c ps bs s' c'
       → (r : Finish) → FinishAs c' r → finish_says r ≡ verdict_says (ended (parse (glued ps)).end)
-  -- calls that count have one outcome too, the counters with it, and what is said of the others holds of them; one after the other they add up: each counter is
-  -- its start with the number of its events in the requests that were carried out since, modulo 2^64
-  pub counted-once : {s q p s₁ s₂ p₁ p₂ : List ℕ} {c c₁ c₂ : Counters} (r t : Ran) → CalledCounted s q p c r s₁ p₁ c₁ → CalledCounted s q p c t s₂ p₂ c₂
-      → OneCall r t s₁ s₂ p₁ p₂ × (c₁ ≡ c₂)
-  pub fed-counted-once : {s k q p s₁ s₂ k₁ k₂ p₁ p₂ : List ℕ} {c c₁ c₂ : Counters} (r t : Fed) → FedCounted s k q p c r s₁ k₁ p₁ c₁
-      → FedCounted s k q p c t s₂ k₂ p₂ c₂ → OneFeed r t s₁ s₂ k₁ k₂ p₁ p₂ × (c₁ ≡ c₂)
-  pub tally_chain : {s : List ℕ} {σ₀ : State} {rs : List Request} {bs : List ℕ} {c₀ c : Counters} → Tally s σ₀ rs bs c₀ c → Chain s σ₀ rs bs
-  pub counts-add-up : {s : List ℕ} {σ₀ : State} {rs : List Request} {bs : List ℕ} {c₀ c : Counters} → Tally s σ₀ rs bs c₀ c → Lent c₀
-      → CountsUp c₀ (run_events σ₀ rs) c
   -- demand 3, over any chain of calls and feeds: the ledger and one place for each key; and the full insert, wherever in the chain it comes
   pub chain-keeps : {s : List ℕ} {σ₀ : State} {rs : List Request} {bs : List ℕ} → Chain s σ₀ rs bs → Kept s σ₀ rs bs
   pub full-within : (a : List Request) (k v : ℕ) (b : List Request) {s bs : List ℕ} {σ₀ : State} {rs : List Request} → Chain s σ₀ rs bs

@@ -4,7 +4,7 @@
 use Rattle.std.specs.Prelude.{◌≡◌, List, [], ◌∷◌, ◌++◌, ℕ, take}
 use Rattle.rules.specs.declared.Turned.TheVariants.{BadRecord}
 use Rattle.rules.specs.Refusals.{number_of}
-use Rattle.s3_fifo.specs.declared.Fed.{Fed}
+use Rattle.runs.specs.declared.Fed.{Fed}
 use Rattle.s3_fifo.specs.declared.Finish.{Finish}
 use Rattle.s3_fifo.specs.declared.Finish.TheVariants.{Complete}
 use Rattle.s3_fifo.specs.Feeds.{fed_says, replies_in, FedAs, FinishAs}

@@ -1,22 +1,23 @@
 // The mapping cache's whole calls (RULES 7): creation, running requests, and requests fed in pieces, as functions of the cache's own type. They ask nothing of
 // their caller: every byte that is lent is checked here, a call is turned away exactly in the cases of the table of refusals (RULES 8), and then no byte has
 // changed.
-ghost use Rattle.std.specs.Prelude.{◌≡◌, length};
-ghost use Rattle.rules.specs.Bytes.{longest_record};
+ghost use Rattle.std.specs.Prelude.{◌≡◌, ◌≤◌, ◌<◌, length};
 ghost use Rattle.rules.specs.Sizing.{defaults_for};
+ghost use Rattle.rules.specs.Refusals.{store_bytes, most_request_bytes};
 ghost use Rattle.sizing.specs.Answers.{asks_of};
+ghost use Rattle.carry.specs.Carries.{Brings};
+ghost use Rattle.store.specs.Holds.{Held};
+ghost use Rattle.s3_fifo.specs.Away.{TurnsAway};
 ghost use Rattle.s3_fifo.specs.Calls.{Created, Called};
 ghost use Rattle.s3_fifo.specs.Feeds.{FedAs, FinishAs};
-ghost use Rattle.s3_fifo.specs.Ready.{Readies, TakesIn};
-ghost use Rattle.s3_fifo.specs.CountedCalls.{CalledCounted, FedCounted};
 
 use carry::Brought;
-use counters::Counters;
-use judging::Ready;
-use pieces::Due;
 use rules::Turned;
+use runs::Fed;
 use sizing::{Settings, Sized};
 use soundness::Checked;
+use store::Shape;
+use wire::Stop;
 
 // What a creation answers.
 #[derive(Drop)]
@@ -32,17 +33,6 @@ pub enum Ran {
     Refused(Turned),
 }
 
-// What a feed answers.
-#[derive(Drop)]
-pub enum Fed {
-    // So many reply bytes; the stream goes on.
-    Done(usize),
-    // So many reply bytes, and the offset of the unknown mark that stops the stream now.
-    Stopped(usize, u64),
-    // Turned away, also because the stream had stopped before; nothing has changed.
-    Refused(Turned),
-}
-
 // What a finish answers.
 #[derive(Drop)]
 pub enum Finish {
@@ -50,136 +40,72 @@ pub enum Finish {
     Refused(Turned),
 }
 
-// What a call that counts answers, and the counters after it.
-#[derive(Drop)]
-struct CountedRun {
-    pub ran: Ran,
-    pub counters: Counters,
-}
-
-// What a feed that counts answers, and the counters after it.
-#[derive(Drop)]
-struct CountedFeed {
-    pub fed: Fed,
-    pub counters: Counters,
-}
-
-// All that is asked before a call, which has so many bytes for replies. Soundness is tested once.
-fn judge(store: &[u8], requests: &[u8], room: usize) -> Ready
-    ensures { Readies store.now requests.now room result }
+// What a call whose requests are too long is turned away for: a damaged store comes first. That this is a second place to check
+// from keeps the check a function of its own in what is compiled: within the loop over the requests it would take the registers
+// that the loop needs (docs/SPEED.md).
+fn refusal_of_long(store: &[u8], requests: &[u8]) -> Turned
+    requires { (store_bytes ≤ length store.now) × (most_request_bytes < length requests.now) }
+    ensures { TurnsAway store.now requests.now result }
 {
-    if store.len() < S3FifoCache::STORE_BYTES {
-        return Ready::Refused(Turned::ShortStore);
-    }
     let checked = soundness::check(store);
     match checked {
-        Checked::Damaged => Ready::Refused(Turned::DamagedStore),
-        Checked::Sound(z) => judging::judge_requests(z, requests, room),
+        Checked::Damaged => Turned::DamagedStore,
+        Checked::Sound(_) => Turned::LongRequests,
     }
 }
 
-// All that is asked before a feed, which has so many bytes for replies; where nothing turns it away, the piece is taken in.
-fn take_in(store: &[u8], carry: &mut [u8], piece: &[u8], room: usize, head: &mut [u8]) -> Due
-    requires { length head.old ≡ longest_record }
-    ensures { TakesIn store.now carry.old piece.now room result carry.new head.new }
+// A call on a store that holds a state: what its requests are turned away for, or their run.
+fn run_sound(store: &mut [u8], z: Shape, requests: &[u8], replies: &mut [u8]) -> Ran
+    requires { Held z store.old × (store_bytes ≤ length store.old) × (length requests.now ≤ most_request_bytes) }
+    ensures { Called store.old requests.now replies.old result store.new replies.new }
 {
-    let brought = carry::read(carry);
-    if store.len() < S3FifoCache::STORE_BYTES {
-        return Due::Refused(Turned::ShortStore);
-    }
-    let checked = soundness::check(store);
-    match checked {
-        Checked::Damaged => Due::Refused(Turned::DamagedStore),
-        Checked::Sound(z) => pieces::take(z, brought, carry, piece, room, head),
-    }
-}
-
-// A call that counts, with the counters by value.
-fn run_tallied(store: &mut [u8], requests: &[u8], replies: &mut [u8], c: Counters) -> CountedRun
-    ensures { CalledCounted store.old requests.now replies.old c result.ran store.new replies.new
-        result.counters }
-{
-    let ready = judge(store, requests, replies.len());
-    match ready {
-        Ready::Refused(turned) => CountedRun {
-            ran: Ran::Refused(turned),
-            counters: c,
-        },
-        Ready::Go(z) => {
-            let counted = counted::run_from(store, z, requests, 0, replies, 0, c);
-            let counters = counted.counters;
-            CountedRun {
-                ran: Ran::Done(counted.end),
-                counters,
+    let survey = wire::survey_all(requests);
+    let stop = survey.stop;
+    match stop {
+        Stop::Unknown => Ran::Refused(Turned::BadRecord(survey.at as u64)),
+        Stop::Cut => Ran::Refused(Turned::BadRecord(survey.at as u64)),
+        Stop::Whole => {
+            let room = survey.room;
+            if replies.len() < room {
+                return Ran::Refused(Turned::NoRoom(room as u64));
             }
+            let out = runs::run_from(store, z, requests, 0, replies, 0);
+            Ran::Done(out)
         }
     }
 }
 
-// A feed that counts, with the counters by value.
-fn feed_tallied(
+// A feed on a store that holds a state.
+fn feed_sound(
     store: &mut [u8],
+    z: Shape,
+    brought: Brought,
     carry: &mut [u8],
     piece: &[u8],
     replies: &mut [u8],
-    c: Counters,
-) -> CountedFeed
-    ensures { FedCounted store.old carry.old piece.now replies.old c result.fed
-        store.new carry.new replies.new result.counters }
+) -> Fed
+    requires { Held z store.old × (store_bytes ≤ length store.old) × Brings carry.old brought }
+    ensures { FedAs store.old carry.old piece.now replies.old result
+        store.new carry.new replies.new }
 {
-    let mut head = [0u8; carry::HEAD_BYTES];
-    let due = take_in(store, carry, piece, replies.len(), &mut head);
-    match due {
-        Due::Refused(turned) => CountedFeed {
-            fed: Fed::Refused(turned),
-            counters: c,
-        },
-        Due::Runs(z, n, from) => {
-            let counted = counted::run_both(store, z, &head[0..n], piece, from, replies, c);
-            let counters = counted.counters;
-            CountedFeed {
-                fed: Fed::Done(counted.end),
-                counters,
+    match brought {
+        Brought::Unfit => Fed::Refused(Turned::BadCarry),
+        Brought::Stopped(at) => {
+            if rules::MOST_REQUEST_BYTES < piece.len() {
+                return Fed::Refused(Turned::LongRequests);
             }
+            Fed::Refused(Turned::BadRecord(at))
         }
-        Due::Stops(z, n, from, at) => {
-            let counted = counted::run_both(store, z, &head[0..n], piece, from, replies, c);
-            let raised = counted.counters;
-            CountedFeed {
-                fed: Fed::Stopped(counted.end, at),
-                counters: raised,
+        Brought::Going(offset, count) => {
+            if u64::MAX - offset - (count as u64) < piece.len() as u64 {
+                return Fed::Refused(Turned::BadCarry);
             }
+            if rules::MOST_REQUEST_BYTES < piece.len() {
+                return Fed::Refused(Turned::LongRequests);
+            }
+            runs::feed_going(store, z, carry, offset, count, piece, replies)
         }
     }
-}
-
-// The parts of what they give. The functions that lend the counters pass values on whole, and read no field.
-fn run_counters(t: CountedRun) -> Counters
-    ensures { result ≡ t.counters }
-{
-    let c = t.counters;
-    c
-}
-
-fn run_answer(t: CountedRun) -> Ran
-    ensures { result ≡ t.ran }
-{
-    let ran = t.ran;
-    ran
-}
-
-fn feed_counters(t: CountedFeed) -> Counters
-    ensures { result ≡ t.counters }
-{
-    let c = t.counters;
-    c
-}
-
-fn feed_answer(t: CountedFeed) -> Fed
-    ensures { result ≡ t.fed }
-{
-    let fed = t.fed;
-    fed
 }
 
 // The cache's own type. The cache itself stands in a store that the caller lends.
@@ -200,7 +126,7 @@ impl S3FifoCache {
     pub const CARRY_BYTES: usize = rules::CARRY_BYTES;
 
     // The version of the interface. It stands here alone: header, wrapper and programs take it from here (tools/version).
-    pub const VERSION: [u8; 5] = *b"0.6.0";
+    pub const VERSION: [u8; 5] = *b"0.5.0";
 
     // The settings that a capacity alone stands for.
     pub fn settings(capacity: u64) -> Settings
@@ -234,29 +160,17 @@ impl S3FifoCache {
     pub fn run(store: &mut [u8], requests: &[u8], replies: &mut [u8]) -> Ran
         ensures { Called store.old requests.now replies.old result store.new replies.new }
     {
-        let ready = judge(store, requests, replies.len());
-        match ready {
-            Ready::Refused(turned) => Ran::Refused(turned),
-            Ready::Go(z) => {
-                let end = runs::run_from(store, z, requests, 0, replies, 0);
-                Ran::Done(end)
-            }
+        if store.len() < S3FifoCache::STORE_BYTES {
+            return Ran::Refused(Turned::ShortStore);
         }
-    }
-
-    // As `run`, and what its requests raise is added to the counters.
-    pub fn run_counted(
-        store: &mut [u8],
-        requests: &[u8],
-        replies: &mut [u8],
-        counters: &mut Counters,
-    ) -> Ran
-        ensures { CalledCounted store.old requests.now replies.old counters.old result
-            store.new replies.new counters.new }
-    {
-        let t = run_tallied(store, requests, replies, *counters);
-        *counters = run_counters(t);
-        run_answer(t)
+        if rules::MOST_REQUEST_BYTES < requests.len() {
+            return Ran::Refused(refusal_of_long(store, requests));
+        }
+        let checked = soundness::check(store);
+        match checked {
+            Checked::Damaged => Ran::Refused(Turned::DamagedStore),
+            Checked::Sound(z) => run_sound(store, z, requests, replies),
+        }
     }
 
     // Feeds a piece of a stream of requests: carries out the records that it completes, and keeps a record that it cuts for the next feed. What is
@@ -265,35 +179,15 @@ impl S3FifoCache {
         ensures { FedAs store.old carry.old piece.now replies.old result
             store.new carry.new replies.new }
     {
-        let mut head = [0u8; carry::HEAD_BYTES];
-        let due = take_in(store, carry, piece, replies.len(), &mut head);
-        match due {
-            Due::Refused(turned) => Fed::Refused(turned),
-            Due::Runs(z, n, from) => {
-                let end = runs::run_both(store, z, &head[0..n], piece, from, replies);
-                Fed::Done(end)
-            }
-            Due::Stops(z, n, from, at) => {
-                let end = runs::run_both(store, z, &head[0..n], piece, from, replies);
-                Fed::Stopped(end, at)
-            }
+        let brought = carry::read(carry);
+        if store.len() < S3FifoCache::STORE_BYTES {
+            return Fed::Refused(Turned::ShortStore);
         }
-    }
-
-    // As `feed`, and what the requests that it carried out raise is added to the counters.
-    pub fn feed_counted(
-        store: &mut [u8],
-        carry: &mut [u8],
-        piece: &[u8],
-        replies: &mut [u8],
-        counters: &mut Counters,
-    ) -> Fed
-        ensures { FedCounted store.old carry.old piece.now replies.old counters.old result
-            store.new carry.new replies.new counters.new }
-    {
-        let t = feed_tallied(store, carry, piece, replies, *counters);
-        *counters = feed_counters(t);
-        feed_answer(t)
+        let checked = soundness::check(store);
+        match checked {
+            Checked::Damaged => Fed::Refused(Turned::DamagedStore),
+            Checked::Sound(z) => feed_sound(store, z, brought, carry, piece, replies),
+        }
     }
 
     // Whether a stream may end here: it has not stopped, and no record is cut.

@@ -83,9 +83,3 @@ module _ {s : List ℕ} {start i n : ℕ} (g : Surveying s start i n) {p : Spot�
 
     pub room_fits : length s ≤ most_request_bytes → Fits w64 (n + e.room)
     room_fits h = omega (arith, survey_next.within, survey_next.few)
-
--- a survey that ends with all read
-pub all_end : (e : End) → stop_of e ≡ Whole → e ≡ whole
-all_end whole h = refl
-all_end (unknown_at i) h = let z : ◌≡◌ {A = ℕ} 0 1 = cc in absurd (omega arith)
-all_end (cut_at i) h = let z : ◌≡◌ {A = ℕ} 0 1 = cc in absurd (omega arith)

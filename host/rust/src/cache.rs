@@ -3,15 +3,13 @@
 use crate::answer::{Answer, Evicted, Inserted, Replies, strange};
 use crate::blocks::{GuestBlock, PhysicalBlock};
 use crate::call::{self, CARRY_BYTES, Fed, MOST_REQUEST_BYTES, Settings};
-use crate::counters::Counters;
 use crate::refusal::Refusal;
 use crate::request::Request;
 
 /// A cache in a store `S`: a lent `&mut [u8]`, a `Vec<u8>`, a `Box<[u8]>`, or anything else that gives bytes.
 ///
 /// Each request is a call of its own here, and each call checks the whole store first; [`run`](Cache::run) takes many
-/// requests to one call, which is what a host with many requests wants, and [`run_counted`](Cache::run_counted) counts what
-/// happened in them.
+/// requests to one call, which is what a host with many requests wants.
 ///
 /// A store that only this cache changes is never refused: [`Refusal`] of a request then means that something else
 /// wrote to the store's memory.
@@ -99,16 +97,7 @@ impl<S: AsMut<[u8]>> Cache<S> {
 
     /// Runs the requests in one call: all of them or, where the call is refused, none.
     pub fn run(&mut self, requests: &[Request]) -> Result<Vec<Answer>, Refusal> {
-        self.answers(requests, None)
-    }
-
-    /// Runs the requests in one call, and adds what happened in them to the counters; a refused call leaves those too.
-    pub fn run_counted(&mut self, requests: &[Request], counters: &mut Counters) -> Result<Vec<Answer>, Refusal> {
-        self.answers(requests, Some(counters))
-    }
-
-    fn answers(&mut self, requests: &[Request], counters: Option<&mut Counters>) -> Result<Vec<Answer>, Refusal> {
-        let replies = self.call(requests, counters)?;
+        let replies = self.call(requests)?;
         let mut read = Replies::new(replies);
         let answers = requests.iter().map(|request| read.answer(*request)).collect();
         if !read.is_empty() {
@@ -118,42 +107,29 @@ impl<S: AsMut<[u8]>> Cache<S> {
     }
 
     fn one(&mut self, request: Request) -> Result<Answer, Refusal> {
-        let replies = self.call(&[request], None)?;
+        let replies = self.call(&[request])?;
         Ok(Replies::new(replies).answer(request))
     }
 
     /// The reply bytes of a call with these requests. The buffer for them is as long as they may need.
-    fn call(&mut self, requests: &[Request], counters: Option<&mut Counters>) -> Result<&[u8], Refusal> {
+    fn call(&mut self, requests: &[Request]) -> Result<&[u8], Refusal> {
         self.requests.clear();
         requests.iter().for_each(|request| request.write(&mut self.requests));
         let room = requests.iter().map(Request::reply_room).sum();
         if self.replies.len() < room {
             self.replies.resize(room, 0);
         }
-        let store = self.store.as_mut();
-        let written = match counters {
-            None => call::run(store, &self.requests, &mut self.replies)?,
-            Some(counters) => call::run_counted(store, &self.requests, &mut self.replies, counters)?,
-        };
+        let written = call::run(self.store.as_mut(), &self.requests, &mut self.replies)?;
         Ok(&self.replies[..written])
     }
 
     /// What a feed of this piece answers, and its reply bytes. The buffer for them is as long as they may need.
-    pub(crate) fn feed(
-        &mut self,
-        carry: &mut [u8; CARRY_BYTES],
-        piece: &[u8],
-        counters: Option<&mut Counters>,
-    ) -> (Fed, &[u8]) {
+    pub(crate) fn feed(&mut self, carry: &mut [u8; CARRY_BYTES], piece: &[u8]) -> (Fed, &[u8]) {
         let room = call::feed_room(piece.len());
         if self.replies.len() < room {
             self.replies.resize(room, 0);
         }
-        let store = self.store.as_mut();
-        let fed = match counters {
-            None => call::feed(store, carry, piece, &mut self.replies),
-            Some(counters) => call::feed_counted(store, carry, piece, &mut self.replies, counters),
-        };
+        let fed = call::feed(self.store.as_mut(), carry, piece, &mut self.replies);
         (fed, &self.replies[..fed.replied])
     }
 }

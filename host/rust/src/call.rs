@@ -1,6 +1,5 @@
 //! The library's calls over slices. This file alone has unsafe code.
 
-use crate::counters::Counters;
 use crate::ffi;
 use crate::record;
 use crate::refusal::Refusal;
@@ -105,58 +104,6 @@ pub fn run(store: &mut [u8], requests: &[u8], replies: &mut [u8]) -> Result<usiz
             &mut detail,
         )
     };
-    run_answered(answer, detail)
-}
-
-/// Runs the requests as [`run`] does, and where they are accepted adds what happened in them to the counters.
-///
-/// ```
-/// use mapcache::{Counters, Refusal, Settings, create, run_counted, store_bytes};
-///
-/// let mut store = vec![0; store_bytes()];
-/// create(Settings::with_capacity(1), &mut store)?;
-/// // at 2^64-1 a counter goes on at 0
-/// let mut counters = Counters { get_misses: u64::MAX, ..Counters::default() };
-/// let get = b"GT\x07\0\0\0\0\0\0\0";
-/// assert_eq!(run_counted(&mut store, get, &mut [0; 10], &mut counters), Ok(2));
-/// assert_eq!((counters.get_calls, counters.get_misses), (1, 0));
-///
-/// // a refused call leaves them
-/// let before = counters;
-/// let refused = run_counted(&mut store, get, &mut [0; 9], &mut counters);
-/// assert_eq!((refused, counters), (Err(Refusal::RepliesShort { needed: 10 }), before));
-/// # Ok::<(), mapcache::Refusal>(())
-/// ```
-///
-/// # Panics
-///
-/// Where the library refuses with a number that this crate does not know: it is of another version.
-#[allow(unsafe_code)]
-pub fn run_counted(
-    store: &mut [u8],
-    requests: &[u8],
-    replies: &mut [u8],
-    counters: &mut Counters,
-) -> Result<usize, Refusal> {
-    let mut detail = 0;
-    // SAFETY: as for `run`; and `counters` is borrowed by `&mut`, so it is no part of the others, and laid out as the header
-    // has it.
-    let answer = unsafe {
-        ffi::mapcache_run_counted(
-            store.as_mut_ptr(),
-            store.len(),
-            requests.as_ptr(),
-            requests.len(),
-            replies.as_mut_ptr(),
-            replies.len(),
-            counters,
-            &mut detail,
-        )
-    };
-    run_answered(answer, detail)
-}
-
-fn run_answered(answer: i64, detail: u64) -> Result<usize, Refusal> {
     usize::try_from(answer).map_err(|_| Refusal::of(answer.unsigned_abs(), detail))
 }
 
@@ -169,13 +116,6 @@ pub struct Fed {
     pub replied: usize,
     /// The refusal that it gave, if it gave one.
     pub refused: Option<Refusal>,
-}
-
-impl Fed {
-    fn of(answer: i64, replied: u64, detail: u64) -> Fed {
-        let refused = (answer < 0).then(|| Refusal::of(answer.unsigned_abs(), detail));
-        Fed { replied: usize::try_from(replied).expect("the library is for machines of 64 bits"), refused }
-    }
 }
 
 /// The reply room that always suffices for a piece of so many bytes.
@@ -211,42 +151,8 @@ pub fn feed(store: &mut [u8], carry: &mut [u8], piece: &[u8], replies: &mut [u8]
             &mut detail,
         )
     };
-    Fed::of(answer, replied, detail)
-}
-
-/// Takes the next piece as [`feed`] does, and adds what happened in the requests that it carries out to the counters, also
-/// where it comes to an unknown mark.
-///
-/// # Panics
-///
-/// Where the library refuses with a number that this crate does not know: it is of another version.
-#[allow(unsafe_code)]
-pub fn feed_counted(
-    store: &mut [u8],
-    carry: &mut [u8],
-    piece: &[u8],
-    replies: &mut [u8],
-    counters: &mut Counters,
-) -> Fed {
-    let (mut replied, mut detail) = (0, 0);
-    // SAFETY: as for `feed`; and `counters` is borrowed by `&mut`, so it is no part of the others, and laid out as the header
-    // has it.
-    let answer = unsafe {
-        ffi::mapcache_feed_counted(
-            store.as_mut_ptr(),
-            store.len(),
-            carry.as_mut_ptr(),
-            carry.len(),
-            piece.as_ptr(),
-            piece.len(),
-            replies.as_mut_ptr(),
-            replies.len(),
-            counters,
-            &mut replied,
-            &mut detail,
-        )
-    };
-    Fed::of(answer, replied, detail)
+    let refused = (answer < 0).then(|| Refusal::of(answer.unsigned_abs(), detail));
+    Fed { replied: usize::try_from(replied).expect("the library is for machines of 64 bits"), refused }
 }
 
 /// Whether a stream may end here: with a whole record, and not stopped. Nothing changes.

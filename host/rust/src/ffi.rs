@@ -3,8 +3,6 @@
 //! assumes of every host; the safe functions of this crate cannot break it.
 #![allow(unsafe_code)]
 
-use crate::counters::Counters;
-
 unsafe extern "C" {
     /// The bytes that a store needs.
     ///
@@ -45,23 +43,6 @@ unsafe extern "C" {
         detail: *mut u64,
     ) -> i64;
 
-    /// Runs the requests as [`mapcache_run`] does, and where it is not refused adds what happened in them to `counters`.
-    ///
-    /// # Safety
-    ///
-    /// What [`mapcache_run`] asks. Besides, `counters` is not null, is aligned as a `u64` is and may be read and written as a
-    /// [`Counters`], overlaps none of the four, and no other thread uses it during the call. Whatever it holds is good.
-    pub unsafe fn mapcache_run_counted(
-        store: *mut u8,
-        store_len: usize,
-        requests: *const u8,
-        requests_len: usize,
-        replies: *mut u8,
-        replies_len: usize,
-        counters: *mut Counters,
-        detail: *mut u64,
-    ) -> i64;
-
     /// Takes the next piece of a stream; the reply bytes, or minus the refusal's number, whose detail stands in `detail`.
     /// The reply bytes stand in `replied` too, and with a new -9 they are those of the requests before the mark.
     ///
@@ -80,27 +61,6 @@ unsafe extern "C" {
         piece_len: usize,
         replies: *mut u8,
         replies_len: usize,
-        replied: *mut u64,
-        detail: *mut u64,
-    ) -> i64;
-
-    /// Takes the next piece as [`mapcache_feed`] does, and adds what happened in the requests that it carries out to
-    /// `counters`, with a new -9 too.
-    ///
-    /// # Safety
-    ///
-    /// What [`mapcache_feed`] asks. Besides, `counters` is not null, is aligned as a `u64` is and may be read and written as a
-    /// [`Counters`], overlaps none of the six, and no other thread uses it during the call. Whatever it holds is good.
-    pub unsafe fn mapcache_feed_counted(
-        store: *mut u8,
-        store_len: usize,
-        carry: *mut u8,
-        carry_len: usize,
-        piece: *const u8,
-        piece_len: usize,
-        replies: *mut u8,
-        replies_len: usize,
-        counters: *mut Counters,
         replied: *mut u64,
         detail: *mut u64,
     ) -> i64;

@@ -3,8 +3,8 @@
 //! A cache maps guest blocks to physical blocks (S3-FIFO), in memory that the host lends. The library underneath,
 //! `libmapcache.a`, is proved to follow its rules for every input under five assumptions: no pointer is null, lengths
 //! are true, the numbers that a call writes are aligned as a `u64` is, the buffers do not overlap, and no other thread uses
-//! them meanwhile. Here they cannot be broken: slices give the first two, those numbers are `u64`s or [`Counters`] of them, and
-//! `&mut` gives the others.
+//! them meanwhile. Here they cannot be broken: slices give the first two, those numbers are `u64`s, and `&mut` gives the
+//! others.
 //!
 //! ```
 //! use mapcache::{Cache, GuestBlock, Inserted, Pair, PhysicalBlock, Queue, Left, Settings};
@@ -22,8 +22,7 @@
 //! # Ok::<(), mapcache::Refusal>(())
 //! ```
 //!
-//! Where requests come as bytes through a pipe that cuts anywhere, a [`Stream`] takes them as they come. How often lookups hit,
-//! pairs left and the like is counted in [`Counters`], where a host lends them.
+//! Where requests come as bytes through a pipe that cuts anywhere, a [`Stream`] takes them as they come.
 //!
 //! A guest block and a physical block are different kinds of number, so they cannot be mixed up:
 //!
@@ -47,7 +46,6 @@ mod answer;
 mod blocks;
 mod cache;
 mod call;
-mod counters;
 pub mod ffi;
 mod record;
 mod refusal;
@@ -60,9 +58,8 @@ pub use blocks::{GuestBlock, Left, Pair, PhysicalBlock, Queue};
 pub use cache::{Cache, in_calls};
 pub use call::{
     CARRY_BYTES, DEFAULT_GHOST_RATIO, DEFAULT_SMALL_RATIO, Fed, MAX_FREQ, MOST, MOST_REQUEST_BYTES, Settings, VERSION,
-    create, feed, feed_counted, feed_room, finish, run, run_counted, store_bytes,
+    create, feed, feed_room, finish, run, store_bytes,
 };
-pub use counters::Counters;
 pub use refusal::Refusal;
 pub use reply::Reply;
 pub use request::Request;

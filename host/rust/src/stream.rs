@@ -3,7 +3,6 @@
 use crate::answer::{Answer, Replies, strange};
 use crate::cache::Cache;
 use crate::call::{self, CARRY_BYTES, MOST_REQUEST_BYTES};
-use crate::counters::Counters;
 use crate::record;
 use crate::refusal::Refusal;
 use crate::request::Request;
@@ -35,13 +34,11 @@ use std::io::{self, Read};
 /// ```
 ///
 /// Each feed checks the whole store once, so large pieces are what a busy host wants. While the stream lives, other requests go
-/// through [`cache`](Stream::cache), and the stream does not count them; [`carry`](Stream::carry) and
-/// [`resume`](Stream::resume) let several streams take turns. [`counting`](Stream::counting) lends it counters.
+/// through [`cache`](Stream::cache); [`carry`](Stream::carry) and [`resume`](Stream::resume) let several streams take turns.
 #[derive(Debug)]
 pub struct Stream<'c, S> {
     cache: &'c mut Cache<S>,
     carry: [u8; CARRY_BYTES],
-    counters: Option<&'c mut Counters>,
 }
 
 /// A request of a stream, and its answer.
@@ -97,36 +94,7 @@ impl<'c, S: AsMut<[u8]>> Stream<'c, S> {
     /// The stream that left this [`carry`](Stream::carry). Bytes that no stream leaves are refused when they are used.
     #[must_use]
     pub fn resume(cache: &'c mut Cache<S>, carry: [u8; CARRY_BYTES]) -> Self {
-        Stream { cache, carry, counters: None }
-    }
-
-    /// The stream with counters lent to it: what happens in the requests that it carries out from here on is added to them, of
-    /// those before an error too.
-    ///
-    /// ```
-    /// use mapcache::{Cache, Counters, Settings, Stream};
-    ///
-    /// let mut cache = Cache::new(Settings::with_capacity(1))?;
-    /// let mut counters = Counters::default();
-    /// let mut stream = Stream::new(&mut cache).counting(&mut counters);
-    /// let get = b"GT\x07\0\0\0\0\0\0\0";
-    /// assert!(stream.feed(&get[..5])?.is_empty());
-    /// assert_eq!(stream.counters().map(|counters| counters.get_calls), Some(0));
-    ///
-    /// // no request has the mark behind it: the stream stops, and the lookup before it counts
-    /// assert!(stream.feed(&[&get[5..], b"XX"].concat()).is_err());
-    /// assert_eq!((counters.get_calls, counters.get_misses), (1, 1));
-    /// # Ok::<(), Box<dyn std::error::Error>>(())
-    /// ```
-    #[must_use]
-    pub fn counting(self, counters: &'c mut Counters) -> Self {
-        Stream { counters: Some(counters), ..self }
-    }
-
-    /// The counters that are lent to the stream, as they stand.
-    #[must_use]
-    pub fn counters(&self) -> Option<&Counters> {
-        self.counters.as_deref()
+        Stream { cache, carry }
     }
 
     /// What the stream carries on: how far it has come, the bytes of a record that is cut, whether it has stopped. The header
@@ -206,7 +174,7 @@ impl<'c, S: AsMut<[u8]>> Stream<'c, S> {
     /// One feed. It is proved that the replies answer the records completed one by one, so they end with the last of those.
     fn feed_part(&mut self, piece: &[u8], each: &mut impl FnMut(Answered)) -> Result<(), StreamError> {
         let before = self.carry;
-        let (fed, replies) = self.cache.feed(&mut self.carry, piece, self.counters.as_deref_mut());
+        let (fed, replies) = self.cache.feed(&mut self.carry, piece);
         let mut read = Replies::new(replies);
         let mut completed = Completed::new(&before, piece);
         while !read.is_empty() {

@@ -1,6 +1,5 @@
 //! One call of the archive in guarded buffers, held to what it must answer.
 
-mod counting;
 mod feeds;
 
 use crate::guard::{Edge, Guarded};
@@ -8,8 +7,7 @@ use crate::layout::{self, Read};
 use crate::verdict::{self, STORE_BYTES, Verdict};
 use crate::watch;
 use common::Random;
-use counting::Counting;
-use mapcache::{Counters, Settings, ffi};
+use mapcache::{Settings, ffi};
 
 /// The longest buffers that are lent.
 pub const MOST_STORE: usize = STORE_BYTES + 8192;
@@ -27,14 +25,13 @@ pub struct Calls {
     carry: Guarded,
     replied: Guarded,
     detail: Guarded,
-    pub counting: Counting,
     /// All calls made, and those among them that only see whether a store is accepted again.
     pub made: u64,
     pub made_again: u64,
 }
 
 impl Calls {
-    pub fn new(seed: u64) -> Calls {
+    pub fn new() -> Calls {
         Calls {
             store: Guarded::new(MOST_STORE),
             requests: Guarded::new(MOST_REQUESTS),
@@ -42,7 +39,6 @@ impl Calls {
             carry: Guarded::new(MOST_CARRY),
             replied: Guarded::new(8),
             detail: Guarded::new(8),
-            counting: Counting::new(seed),
             made: 0,
             made_again: 0,
         }
@@ -62,15 +58,13 @@ impl Calls {
         lend(&mut self.requests, requests, random);
         lend(&mut self.replies, &vec![filling; replies_len], random);
         lend(&mut self.detail, &UNWRITTEN.to_le_bytes(), random);
-        let counters = self.counting.lend();
-        let answer = self.call_run(counters);
+        let answer = self.call_run();
         if self.requests.bytes() != requests {
             return Err("the requests were changed".to_owned());
         }
         self.answer_is(&expected, answer)?;
         self.replies_are(&expected, filling)?;
         self.store_is(&expected, store)?;
-        self.counting.judge_run(&expected)?;
         self.nothing_beside_is_touched()?;
         self.take_over(&expected, store, random)?;
         Ok(expected)
@@ -99,7 +93,7 @@ impl Calls {
         let detail = layout::number(self.detail.bytes());
         let (right, right_detail) = match expected {
             Verdict::Refused { number, detail } => (-i64::from(*number), *detail),
-            Verdict::Done { told, .. } => (told.replies.len() as i64, 0),
+            Verdict::Done { replies, .. } => (replies.len() as i64, 0),
         };
         if (answer, detail) == (right, right_detail) {
             Ok(())
@@ -112,7 +106,7 @@ impl Calls {
     fn replies_are(&mut self, expected: &Verdict, filling: u8) -> Result<(), String> {
         let right = match expected {
             Verdict::Refused { .. } => &[],
-            Verdict::Done { told, .. } => told.replies.as_slice(),
+            Verdict::Done { replies, .. } => replies.as_slice(),
         };
         let (front, rest) = self.replies.bytes().split_at(right.len());
         if front != right {
@@ -160,7 +154,6 @@ impl Calls {
             ("carry", &mut self.carry),
             ("replied", &mut self.replied),
             ("detail", &mut self.detail),
-            ("counters", &mut self.counting.record),
         ] {
             if !buffer.beside_is_untouched() {
                 return Err(format!("bytes beside the buffer of the {name} were changed"));
@@ -175,7 +168,7 @@ impl Calls {
         lend(&mut self.requests, &[], random);
         lend(&mut self.replies, &[], random);
         lend(&mut self.detail, &UNWRITTEN.to_le_bytes(), random);
-        let answer = self.call_run(None);
+        let answer = self.call_run();
         self.made_again += 1;
         if answer != 0 || layout::number(self.detail.bytes()) != 0 || self.store.bytes() != store {
             return Err(format!(
@@ -185,22 +178,17 @@ impl Calls {
         self.nothing_beside_is_touched()
     }
 
-    fn call_run(&mut self, counters: Option<*mut Counters>) -> i64 {
+    fn call_run(&mut self) -> i64 {
         self.made += 1;
         watch::call(self.made);
-        // each buffer, and its length by its letter
-        let (store, s) = parts(self.store.bytes());
-        let (requests, q) = parts(self.requests.bytes());
-        let (replies, r) = parts(self.replies.bytes());
+        let (store, store_len) = parts(self.store.bytes());
+        let (requests, requests_len) = parts(self.requests.bytes());
+        let (replies, replies_len) = parts(self.replies.bytes());
         let (detail, _) = parts(self.detail.bytes());
-        let detail = detail.cast();
         self.requests.read_only(true);
-        let answer = match counters {
-            // SAFETY: four mappings of their own, each good for its length, and no other thread.
-            None => unsafe { ffi::mapcache_run(store, s, requests, q, replies, r, detail) },
-            // SAFETY: the same, and one more for the counters.
-            Some(counters) => unsafe { ffi::mapcache_run_counted(store, s, requests, q, replies, r, counters, detail) },
-        };
+        // SAFETY: four mappings of their own, each good for its length, and no other thread.
+        let answer =
+            unsafe { ffi::mapcache_run(store, store_len, requests, requests_len, replies, replies_len, detail.cast()) };
         self.requests.read_only(false);
         answer
     }

@@ -60,7 +60,7 @@ impl FeedTally {
             *self.pairs.entry((first, second)).or_default() += 1;
         }
         match &fed.verdict {
-            Verdict::Done { told, .. } => self.accepted(before, piece, fed, !told.replies.is_empty()),
+            Verdict::Done { replies, .. } => self.accepted(before, piece, fed, !replies.is_empty()),
             Verdict::Refused { number: 10, .. } => {
                 let kept = carry::read(before, None).map_or(Vec::new(), |carry| carry.kept);
                 self.event_if(stream::walk(&[&kept, piece].concat()).unknown, ROOM_FIRST);

@@ -1,16 +1,14 @@
 //! Bad input at scale: calls of the archive with stores of every kind of damage, requests cut and garbled, streams fed in
 //! pieces with carries that no feed left, and every ratio and buffer length around each limit, in buffers that end at
-//! unreadable pages; about half of the runs and feeds are counted. Each call's answer, replies, store, carry and counters are
-//! held to what the rules give, worked out here from the bytes anew; a refused call must change nothing, no call may touch
-//! anything else, and a store that a call left must be accepted by the next.
+//! unreadable pages. Each call's answer, replies, store and carry are held to what the rules give, worked out here from the
+//! bytes anew; a refused call must change nothing, no call may touch anything else, and a store that a call left must be
+//! accepted by the next.
 
 mod calls;
 mod carry;
 mod carry_damage;
-mod count_tally;
 mod damage;
 mod edit;
-mod events;
 mod feed_limits;
 mod feed_tally;
 mod feeding;
@@ -61,9 +59,7 @@ fn fuzz(seed: u64, least: u64) -> ExitCode {
     println!("fuzz: seed {seed}, {} calls, each as it must be", fuzzer.calls.made);
     println!("  stores of accepted calls, each accepted again: {}", fuzzer.calls.made_again);
     fuzzer.tally.print();
-    fuzzer.calls.counting.tally.print();
-    let mut missing = fuzzer.tally.missing();
-    missing.extend(fuzzer.calls.counting.tally.missing());
+    let missing = fuzzer.tally.missing();
     for problem in &missing {
         eprintln!("fuzz: {problem}: these calls do not show enough");
     }
@@ -87,7 +83,7 @@ impl Fuzzer {
         let streams = [(); STREAMS].map(|()| Stream::new(&mut random));
         Fuzzer {
             random,
-            calls: Calls::new(seed),
+            calls: Calls::new(),
             tally: Tally::default(),
             store: Vec::new(),
             earlier: Vec::new(),

@@ -1,7 +1,6 @@
 //! The cache's state as plain lists, and its rules on them: slow, short, and with nothing in common with the archive.
 //! Part of the judge: the types and the records are written again here on purpose, as `verdict` says.
 
-use crate::events::{Event, Events};
 use std::collections::VecDeque;
 
 #[derive(Clone, Copy, Debug, PartialEq, Eq)]
@@ -30,13 +29,6 @@ enum Queue {
 
 const MAX_FREQ: u8 = 3;
 
-/// What requests give besides the state: their reply bytes, and how often each event came.
-#[derive(Clone, Debug, Default, PartialEq, Eq)]
-pub struct Told {
-    pub replies: Vec<u8>,
-    pub events: Events,
-}
-
 impl State {
     pub fn empty(capacity: u64, small_limit: u64, ghost_limit: u64) -> State {
         State {
@@ -49,21 +41,21 @@ impl State {
         }
     }
 
-    /// Runs requests that are known to be whole records.
-    pub fn run(&mut self, requests: &[u8]) -> Told {
-        let mut told = Told::default();
+    /// Runs requests that are known to be whole records, and answers the reply bytes.
+    pub fn run(&mut self, requests: &[u8]) -> Vec<u8> {
+        let mut replies = Vec::new();
         let mut rest = requests;
         while !rest.is_empty() {
-            rest = self.request(rest, &mut told);
+            rest = self.request(rest, &mut replies);
         }
-        told
+        replies
     }
 
-    fn request<'a>(&mut self, record: &'a [u8], out: &mut Told) -> &'a [u8] {
+    fn request<'a>(&mut self, record: &'a [u8], out: &mut Vec<u8>) -> &'a [u8] {
         let number = |n: usize| u64::from_le_bytes(record[2 + 8 * n..10 + 8 * n].try_into().expect("8 bytes"));
         match &record[..2] {
-            b"GT" => self.get(number(0), out),
-            b"PK" => self.peek(number(0), out),
+            b"GT" => self.get(number(0), true, out),
+            b"PK" => self.get(number(0), false, out),
             b"RM" => self.remove(number(0), out),
             b"IN" => self.insert(number(0), number(1), out),
             b"EV" => self.evict_one(out),
@@ -81,26 +73,19 @@ impl State {
         self.small.iter_mut().chain(self.main.iter_mut()).find(|entry| entry.key == key)
     }
 
-    fn get(&mut self, key: u64, out: &mut Told) {
-        self.peek(key, out);
-        out.events.count(Event::GetCall);
+    fn get(&mut self, key: u64, warms: bool, out: &mut Vec<u8>) {
         match self.find(key) {
             Some(entry) => {
-                entry.frequency = MAX_FREQ.min(entry.frequency + 1);
-                out.events.count(Event::GetHit);
+                reply(out, b"HI", &[entry.value]);
+                if warms {
+                    entry.frequency = MAX_FREQ.min(entry.frequency + 1);
+                }
             },
-            None => out.events.count(Event::GetMiss),
-        }
-    }
-
-    fn peek(&mut self, key: u64, out: &mut Told) {
-        match self.find(key) {
-            Some(entry) => reply(out, b"HI", &[entry.value]),
             None => reply(out, b"MI", &[]),
         }
     }
 
-    fn remove(&mut self, key: u64, out: &mut Told) {
+    fn remove(&mut self, key: u64, out: &mut Vec<u8>) {
         match self.find(key).map(|entry| entry.value) {
             Some(value) => {
                 self.small.retain(|entry| entry.key != key);
@@ -111,34 +96,27 @@ impl State {
         }
     }
 
-    fn insert(&mut self, key: u64, value: u64, out: &mut Told) {
-        out.events.count(Event::InsertCall);
+    fn insert(&mut self, key: u64, value: u64, out: &mut Vec<u8>) {
         if let Some(entry) = self.find(key) {
-            out.events.count(Event::InsertUpdate);
             reply(out, b"RE", &[entry.value]);
             entry.value = value;
             entry.frequency = MAX_FREQ.min(entry.frequency + 1);
             return;
         }
-        out.events.count(Event::InsertNew);
         let ghosts_before = self.ghosts.len();
         self.ghosts.retain(|ghost| *ghost != key);
         let was_ghost = self.ghosts.len() < ghosts_before;
-        if was_ghost {
-            out.events.count(Event::GhostHit);
-        }
         let pops = self.evict_if_full(out);
         let queue = if was_ghost { &mut self.main } else { &mut self.small };
         queue.push_front(Entry { key, value, frequency: 0 });
         reply(out, b"NW", &[pops]);
     }
 
-    fn evict_if_full(&mut self, out: &mut Told) -> u64 {
+    fn evict_if_full(&mut self, out: &mut Vec<u8>) -> u64 {
         let mut pops = 0;
         if ((self.small.len() + self.main.len()) as u64) < self.capacity {
             return pops;
         }
-        out.events.count(Event::EvictCall);
         loop {
             pops += 1;
             let from = if self.small.len() as u64 > self.small_limit || self.main.is_empty() {
@@ -148,28 +126,17 @@ impl State {
             };
             let entry = self.pop(from).expect("a full cache has a resident");
             if entry.frequency > 0 {
-                out.events.count(if from == Queue::Small { Event::Promotion } else { Event::MainReinsert });
                 self.put_back(from, entry);
                 continue;
             }
-            self.report(from, entry, out);
+            match from {
+                Queue::Small => {
+                    reply(out, b"ES", &[entry.key, entry.value]);
+                    self.record_ghost(entry.key);
+                },
+                Queue::Main => reply(out, b"EM", &[entry.key, entry.value]),
+            }
             return pops;
-        }
-    }
-
-    /// A pair that the eviction rule pushes out.
-    fn report(&mut self, from: Queue, entry: Entry, out: &mut Told) {
-        out.events.count(Event::EvictedEntry);
-        match from {
-            Queue::Small => {
-                out.events.count(Event::SmallEviction);
-                reply(out, b"ES", &[entry.key, entry.value]);
-                self.record_ghost(entry.key);
-            },
-            Queue::Main => {
-                out.events.count(Event::MainEviction);
-                reply(out, b"EM", &[entry.key, entry.value]);
-            },
         }
     }
 
@@ -196,7 +163,7 @@ impl State {
         self.ghosts.push_front(key);
     }
 
-    fn evict_one(&mut self, out: &mut Told) {
+    fn evict_one(&mut self, out: &mut Vec<u8>) {
         self.evict_if_full(out);
         let from = if self.small.is_empty() { Queue::Main } else { Queue::Small };
         let mut popped = self.pop(from);
@@ -214,15 +181,15 @@ impl State {
         }
     }
 
-    fn clear(&mut self, out: &mut Told) {
+    fn clear(&mut self, out: &mut Vec<u8>) {
         *self = State::empty(self.capacity, self.small_limit, self.ghost_limit);
         reply(out, b"OK", &[]);
     }
 }
 
-fn reply(out: &mut Told, mark: &[u8; 2], numbers: &[u64]) {
-    out.replies.extend_from_slice(mark);
+fn reply(out: &mut Vec<u8>, mark: &[u8; 2], numbers: &[u64]) {
+    out.extend_from_slice(mark);
     for number in numbers {
-        out.replies.extend_from_slice(&number.to_le_bytes());
+        out.extend_from_slice(&number.to_le_bytes());
     }
 }

@@ -13,7 +13,7 @@ pub const FINISH_REFUSALS: [u8; 2] = [9, 17];
 /// What a feed must do.
 #[derive(Clone, Debug)]
 pub struct Fed {
-    /// Refused, and then nothing changes; or the state afterwards, the replies and what is counted.
+    /// Refused, and then nothing changes; or the state afterwards and the replies.
     pub verdict: Verdict,
     /// All bytes of the carry afterwards, those behind the first 32 among them.
     pub carry: Vec<u8>,
@@ -79,12 +79,12 @@ pub fn of_feed(store: &[u8], carry: &[u8], piece: &[u8], replies_len: usize) -> 
 fn done(mut state: State, before: &Carry, carry: &[u8], piece: &[u8]) -> Fed {
     let joined = [&before.kept, piece].concat();
     let Walk { whole, unknown, .. } = walk(&joined);
-    let told = Box::new(state.run(&joined[..whole]));
+    let replies = state.run(&joined[..whole]);
     let offset = before.offset + whole as u64;
     let kept = if unknown { Vec::new() } else { joined[whole..].to_vec() };
     let left = Carry { offset, kept, stopped: unknown }.write();
     Fed {
-        verdict: Verdict::Done { state, told },
+        verdict: Verdict::Done { state, replies },
         carry: [&left, &carry[CARRY_BYTES..]].concat(),
         stops_at: unknown.then_some(offset),
         reasons: Vec::new(),

@@ -1,12 +1,12 @@
 //! What each call must answer, worked out from the bytes of its buffers alone.
 //!
-//! This file, `carry`, `stream`, `state`, `events` and `layout` are the fuzzer's judge. They have their own reader of stores,
-//! carries and records, their own rules, counts and constants, and share none with the wrapper, with the reader that the
+//! This file, `carry`, `stream`, `state` and `layout` are the fuzzer's judge. They have their own reader of stores, carries
+//! and records, their own rules and their own constants, and share none with the wrapper, with the reader that the
 //! differential runs use or with the archive: a mistake in what is shared would be on both sides of each comparison, and no
 //! run would show it.
 
 use crate::layout;
-use crate::state::{State, Told};
+use crate::state::State;
 
 /// The numbers that each call can refuse with; the runs must come to every one.
 pub const CREATE_REFUSALS: [u8; 6] = [1, 2, 3, 4, 5, 6];
@@ -21,10 +21,10 @@ pub enum Verdict {
         number: u8,
         detail: u64,
     },
-    /// The state afterwards, the reply bytes, and what a counted call counts.
+    /// The state afterwards and the reply bytes.
     Done {
         state: State,
-        told: Box<Told>,
+        replies: Vec<u8>,
     },
 }
 
@@ -61,8 +61,8 @@ pub fn of_run(store: &[u8], requests: &[u8], replies_len: usize) -> Verdict {
         Err(offset) => Verdict::Refused { number: 9, detail: offset as u64 },
         Ok(room) if replies_len < room => Verdict::Refused { number: 10, detail: room as u64 },
         Ok(_) => {
-            let told = Box::new(state.run(requests));
-            Verdict::Done { state, told }
+            let replies = state.run(requests);
+            Verdict::Done { state, replies }
         },
     }
 }
@@ -84,6 +84,6 @@ pub fn of_create(capacity: u64, small_ratio: f64, ghost_ratio: f64, store_len: u
         refused(6)
     } else {
         let state = State::empty(capacity, limit(small_ratio) as u64, limit(ghost_ratio) as u64);
-        Verdict::Done { state, told: Box::default() }
+        Verdict::Done { state, replies: Vec::new() }
     }
 }

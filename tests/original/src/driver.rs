@@ -5,7 +5,7 @@ use crate::error::ConfigError;
 use crate::policy::s3_fifo::{S3FifoCache, observe};
 use crate::state::{Entry, State};
 use crate::traits::EvictingCache;
-use mapcache::{Counters, GuestBlock, Pair, PhysicalBlock, Reply, Request, Settings};
+use mapcache::{GuestBlock, Pair, PhysicalBlock, Reply, Request, Settings};
 
 pub struct Original {
     cache: S3FifoCache<u64, u64>,
@@ -31,24 +31,9 @@ impl Original {
         observe::state(&self.cache)
     }
 
-    /// What the original itself has counted since it was made.
-    pub fn counters(&self) -> Counters {
-        let counted = self.cache.metrics_snapshot();
-        Counters {
-            get_calls: counted.get_calls,
-            get_hits: counted.get_hits,
-            get_misses: counted.get_misses,
-            insert_calls: counted.insert_calls,
-            insert_updates: counted.insert_updates,
-            insert_new: counted.insert_new,
-            evict_calls: counted.evict_calls,
-            evicted_entries: counted.evicted_entries,
-            promotions: counted.promotions,
-            main_reinserts: counted.main_reinserts,
-            small_evictions: counted.small_evictions,
-            main_evictions: counted.main_evictions,
-            ghost_hits: counted.ghost_hits,
-        }
+    /// How many inserts so far found their key among the ghosts, by the original's own count.
+    pub fn ghost_hits(&self) -> u64 {
+        self.cache.metrics().ghost_hits
     }
 
     /// Runs one request and appends its replies.

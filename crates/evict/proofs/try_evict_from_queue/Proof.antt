@@ -12,7 +12,6 @@ try-evict-from-queue-spec =
     (tie.spec
     (λ c κs. search rules)
     (λ c. search rules)
-    (λ c κs. search rules)
     (λ c. search rules)
     (λ c κs. (search cold-held, search cold-tail))
     (λ c. search rules)

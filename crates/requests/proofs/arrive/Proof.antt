@@ -1,7 +1,7 @@
 -- `requests::arrive` meets its contract.
 -- Assumes nothing.
 use borrow.Author.Rules.{rules}
-use Rattle.requests.proofs.InsertLaws.{can_attach, arrived, makes_raises}
+use Rattle.requests.proofs.InsertLaws.{can_attach, arrived}
 use Rattle.requests.proofs.arrive.Statement.{statement}
 use Rattle.requests.proofs.arrive.Tie as tie
 
@@ -12,4 +12,4 @@ arrive-spec =
     (λ c κs. search rules)
     (λ c κs. (search rules, search can_attach))
     (λ c. search rules)
-    (λ c. (search arrived, search makes_raises)))
+    (λ c. search arrived))

@@ -1,7 +1,7 @@
 -- `runs::run_both` meets its contract.
 -- Assumes nothing.
 use borrow.Author.Rules.{rules}
-use Rattle.runs.proofs.RunLaws.{head-ready, piece-ready, both-ran}
+use Rattle.runs.proofs.PieceLaws.{head-ready, piece-ready, both-ran}
 use Rattle.runs.proofs.run_both.Statement.{statement}
 use Rattle.runs.proofs.run_both.Tie as tie
 

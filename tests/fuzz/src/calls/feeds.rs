@@ -6,7 +6,7 @@ use crate::stream::{self, Fed};
 use crate::verdict::Verdict;
 use crate::watch;
 use common::Random;
-use mapcache::{Counters, ffi};
+use mapcache::ffi;
 
 impl Calls {
     /// Feeds the piece to the store. Store and carry become what the call makes of them.
@@ -26,8 +26,7 @@ impl Calls {
         lend(&mut self.replies, &vec![filling; replies_len], random);
         lend(&mut self.replied, &UNWRITTEN.to_le_bytes(), random);
         lend(&mut self.detail, &UNWRITTEN.to_le_bytes(), random);
-        let counters = self.counting.lend();
-        let answer = self.call_feed(counters);
+        let answer = self.call_feed();
         if self.requests.bytes() != piece {
             return Err("the piece was changed".to_owned());
         }
@@ -36,7 +35,6 @@ impl Calls {
         self.carry_is(&expected.carry)?;
         self.store_is(&expected.verdict, store)?;
         self.store_stays_without_requests(&expected.verdict, store)?;
-        self.counting.judge_feed(&expected)?;
         self.nothing_beside_is_touched()?;
         carry.copy_from_slice(&expected.carry);
         self.take_over(&expected.verdict, store, random)?;
@@ -65,8 +63,8 @@ impl Calls {
         let detail = layout::number(self.detail.bytes());
         let right = match (&expected.verdict, expected.stops_at) {
             (Verdict::Refused { number, detail }, _) => (-i64::from(*number), 0, *detail),
-            (Verdict::Done { told, .. }, None) => (told.replies.len() as i64, told.replies.len() as u64, 0),
-            (Verdict::Done { told, .. }, Some(offset)) => (-9, told.replies.len() as u64, offset),
+            (Verdict::Done { replies, .. }, None) => (replies.len() as i64, replies.len() as u64, 0),
+            (Verdict::Done { replies, .. }, Some(offset)) => (-9, replies.len() as u64, offset),
         };
         if (answer, replied, detail) == right {
             return Ok(());
@@ -81,7 +79,7 @@ impl Calls {
     /// A feed that completes no request, and so replies nothing, changes no byte of the store.
     fn store_stays_without_requests(&mut self, expected: &Verdict, before: &[u8]) -> Result<(), String> {
         match expected {
-            Verdict::Done { told, .. } if told.replies.is_empty() && self.store.bytes() != before => {
+            Verdict::Done { replies, .. } if replies.is_empty() && self.store.bytes() != before => {
                 Err("a feed that completed no request changed the store".to_owned())
             },
             _ => Ok(()),
@@ -93,25 +91,30 @@ impl Calls {
         if carry == right { Ok(()) } else { Err(format!("the carry is {carry:02x?}; it must be {right:02x?}")) }
     }
 
-    fn call_feed(&mut self, counters: Option<*mut Counters>) -> i64 {
+    fn call_feed(&mut self) -> i64 {
         self.made += 1;
         watch::call(self.made);
-        // each buffer, and its length by its letter
-        let (store, s) = parts(self.store.bytes());
-        let (carry, c) = parts(self.carry.bytes());
-        let (piece, p) = parts(self.requests.bytes());
-        let (replies, r) = parts(self.replies.bytes());
+        let (store, store_len) = parts(self.store.bytes());
+        let (carry, carry_len) = parts(self.carry.bytes());
+        let (piece, piece_len) = parts(self.requests.bytes());
+        let (replies, replies_len) = parts(self.replies.bytes());
         let (replied, _) = parts(self.replied.bytes());
         let (detail, _) = parts(self.detail.bytes());
-        let (replied, detail) = (replied.cast(), detail.cast());
         self.requests.read_only(true);
-        let answer = match counters {
-            // SAFETY: six mappings of their own, each good for its length, and no other thread.
-            None => unsafe { ffi::mapcache_feed(store, s, carry, c, piece, p, replies, r, replied, detail) },
-            // SAFETY: the same, and one more for the counters.
-            Some(counters) => unsafe {
-                ffi::mapcache_feed_counted(store, s, carry, c, piece, p, replies, r, counters, replied, detail)
-            },
+        // SAFETY: six mappings of their own, each good for its length, and no other thread.
+        let answer = unsafe {
+            ffi::mapcache_feed(
+                store,
+                store_len,
+                carry,
+                carry_len,
+                piece,
+                piece_len,
+                replies,
+                replies_len,
+                replied.cast(),
+                detail.cast(),
+            )
         };
         self.requests.read_only(false);
         answer

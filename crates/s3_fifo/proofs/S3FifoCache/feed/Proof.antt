@@ -1,7 +1,8 @@
 -- `S3FifoCache::feed` meets its contract.
 -- Assumes nothing.
 use borrow.Author.Rules.{rules}
-use Rattle.s3_fifo.proofs.FeedLaws.{runs-held, runs-part, runs-ready, stops-held, stops-part, stops-ready, fed-away, fed-runs, fed-stops}
+use Rattle.s3_fifo.proofs.CallLaws.{checked-held}
+use Rattle.s3_fifo.proofs.FeedLaws.{fed-short, fed-damaged}
 use Rattle.s3_fifo.proofs.S3FifoCache.feed.Statement.{statement}
 use Rattle.s3_fifo.proofs.S3FifoCache.feed.Tie as tie
 
@@ -9,27 +10,17 @@ pub feed-spec : {M : Type 1} → statement M
 feed-spec =
     tie.close
     (tie.spec
+    (λ c κs. search rules)
     (λ c. search rules)
+    (λ c. search fed-short)
     (λ c κs. search rules)
     (λ c. search rules)
     (λ c. search rules)
+    (λ c κs. (search checked-held, search rules, search rules))
     (λ c. search rules)
     (λ c. search rules)
-    (λ c. search runs-part)
-    (λ c κs. (search runs-held, search runs-ready))
-    (λ c. search rules)
-    (λ c. search rules)
-    (λ c. search rules)
-    (λ c. search stops-part)
-    (λ c κs. (search stops-held, search stops-ready))
-    (λ c. search rules)
-    (λ c. search rules)
-    (λ c. search fed-away)
+    (λ c. search fed-damaged)
     (λ c. search rules)
     (λ c. search rules)
     (λ c. search rules)
-    (λ c. search fed-runs)
-    (λ c. search rules)
-    (λ c. search rules)
-    (λ c. search rules)
-    (λ c. search fed-stops))
+    (λ c. search rules))

@@ -1,20 +1,26 @@
 -- `S3FifoCache::run` meets its contract.
 -- Assumes nothing.
 use borrow.Author.Rules.{rules}
-use Rattle.s3_fifo.proofs.CallLaws.{ready_held, ready-room, called-ran, called-away}
+use Rattle.s3_fifo.proofs.CallLaws.{called-short, called-damaged, checked-held, turned-away}
 use Rattle.s3_fifo.proofs.S3FifoCache.run.Statement.{statement}
 use Rattle.s3_fifo.proofs.S3FifoCache.run.Tie as tie
+
+ruleset laws = (rules, called-short, called-damaged, turned-away)
 
 pub run_spec : {M : Type 1} → statement M
 run_spec =
     tie.close
     (tie.spec
+    (λ c. search laws)
+    (λ c κs. search rules)
+    (λ c. search rules)
+    (λ c. search laws)
     (λ c κs. search rules)
     (λ c. search rules)
     (λ c. search rules)
-    (λ c κs. (search ready_held, search ready-room))
+    (λ c κs. (search checked-held, search rules, search rules))
     (λ c. search rules)
-    (λ c. search called-away)
+    (λ c. search laws)
     (λ c. search rules)
     (λ c. search rules)
-    (λ c. search called-ran))
+    (λ c. search laws))

@@ -1,12 +1,9 @@
 //! The same requests on a second store, as a stream in pieces that are cut anywhere.
 
-use crate::counted::Counted;
 use crate::ending::Ending;
 use crate::pair::UNTOUCHED;
 use common::Random;
-use mapcache::{
-    CARRY_BYTES, Counters, Fed as FedBytes, MOST_REQUEST_BYTES, Refusal, Request, feed, feed_counted, feed_room, finish,
-};
+use mapcache::{CARRY_BYTES, Fed as FedBytes, MOST_REQUEST_BYTES, Refusal, Request, feed, feed_room, finish};
 
 /// What stands behind the carry, and must stay.
 const BEHIND: [u8; 8] = [UNTOUCHED; 8];
@@ -15,9 +12,6 @@ pub struct Fed {
     random: Random,
     pub store: Vec<u8>,
     carry: Vec<u8>,
-    counted: Counted,
-    /// Store and carry of the same pieces in feeds that do not count: always the same bytes.
-    plain: (Vec<u8>, Vec<u8>),
     /// How many bytes have come.
     position: u64,
     /// Where the stream is cut in the last call's last request: what of it is still to come, and its reply room.
@@ -38,21 +32,10 @@ pub struct Piece {
 }
 
 impl Fed {
-    /// A new stream on a copy of this store, which is fresh.
-    pub fn new(store: &[u8], counted: Counted, random: Random) -> Fed {
+    /// A new stream on a fresh store.
+    pub fn new(store: Vec<u8>, random: Random) -> Fed {
         let carry = [&[0; CARRY_BYTES][..], &BEHIND].concat();
-        Fed {
-            random,
-            store: store.to_vec(),
-            carry: carry.clone(),
-            counted,
-            plain: (store.to_vec(), carry),
-            position: 0,
-            waiting: None,
-            mark: None,
-            replies: Vec::new(),
-            met: Vec::new(),
-        }
+        Fed { random, store, carry, position: 0, waiting: None, mark: None, replies: Vec::new(), met: Vec::new() }
     }
 
     /// How the stream is to end.
@@ -129,11 +112,14 @@ impl Fed {
         self.random.between(least as u64, most as u64) as usize
     }
 
-    /// Feeds a piece, and holds its replies to those that the original has given since the last one, and its counters to what
-    /// the original has counted.
-    pub fn feed(&mut self, piece: &Piece, expected: &[u8], counted: &Counters) -> Result<(), String> {
+    /// Feeds a piece, and holds its replies to those that the original has given since the last one. Its reply buffer is
+    /// as long as the piece asks, or as suffices for every piece of its length.
+    pub fn feed(&mut self, piece: &Piece, expected: &[u8]) -> Result<(), String> {
+        let enough = if self.random.one_in(2) { piece.room } else { feed_room(piece.bytes.len()) };
+        self.replies.clear();
+        self.replies.resize(enough, UNTOUCHED);
         let was_stopped = self.is_stopped();
-        let answer = self.feed_both(piece)?;
+        let answer = feed(&mut self.store, &mut self.carry, &piece.bytes, &mut self.replies);
         self.position += piece.bytes.len() as u64;
         let stopped_at = self.mark.filter(|_| self.is_stopped());
         let right =
@@ -145,28 +131,8 @@ impl Fed {
         if replies != expected || rest.iter().any(|byte| *byte != UNTOUCHED) {
             return Err(format!("{}: the replies differ, or the library wrote behind them", self.at(piece)));
         }
-        let wrapped =
-            self.counted.compare(counted).map_err(|difference| format!("{}: {difference}", self.at(piece)))?;
-        self.met.extend([("pieces whose counters agree", 1), ("counters that went on at 0 in a feed", wrapped)]);
         self.note(piece, !expected.is_empty(), was_stopped);
         Ok(())
-    }
-
-    /// Feeds a piece counted and plain. The reply buffer is as long as the piece asks, or as suffices for every piece of its
-    /// length.
-    fn feed_both(&mut self, piece: &Piece) -> Result<FedBytes, String> {
-        let enough = if self.random.one_in(2) { piece.room } else { feed_room(piece.bytes.len()) };
-        self.replies.clear();
-        self.replies.resize(enough, UNTOUCHED);
-        let mut replies = self.replies.clone();
-        let (store, carry) = &mut self.plain;
-        let plain = feed(store, carry, &piece.bytes, &mut replies);
-        let counters = &mut self.counted.now;
-        let answer = feed_counted(&mut self.store, &mut self.carry, &piece.bytes, &mut self.replies, counters);
-        if plain != answer || replies != self.replies || *store != self.store || *carry != self.carry {
-            return Err(format!("a plain feed answers {plain:?}, a counted one {answer:?}, or their bytes differ"));
-        }
-        Ok(answer)
     }
 
     /// Both bytes of the unknown mark have come.

@@ -1,12 +1,10 @@
-//! The library and the original side by side, on the same requests: in whole calls, and on a second store in pieces. Both ways
-//! are counted, and a plain call beside each must do the same.
+//! The library and the original side by side, on the same requests: in whole calls, and on a second store in pieces.
 
-use crate::counted::{self, Counted};
 use crate::ending::Ending;
 use crate::fed::Fed;
 use crate::store;
 use common::Random;
-use mapcache::{Counters, Reply, Request, Settings};
+use mapcache::{Refusal, Reply, Request, Settings};
 use original::driver::Original;
 use original::state::State;
 
@@ -16,9 +14,6 @@ pub const UNTOUCHED: u8 = 0xa5;
 pub struct Pair {
     random: Random,
     store: Vec<u8>,
-    counted: Counted,
-    /// The same requests in calls that do not count: as many bytes, and always the same as the store's.
-    plain: Vec<u8>,
     /// The same requests in pieces, on a store of their own.
     fed: Fed,
     /// What stands behind the used part of both stores, and must stay.
@@ -36,8 +31,9 @@ pub struct Pair {
 pub struct Agreed<'a> {
     pub replies: &'a [u8],
     pub state: State,
-    /// What counting and feeding came across, how often.
-    pub met: Vec<(&'static str, u64)>,
+    pub ghost_hits: u64,
+    /// What feeding came across, how often.
+    pub fed: Vec<(&'static str, u64)>,
 }
 
 impl Pair {
@@ -51,14 +47,10 @@ impl Pair {
         random.fill(&mut store);
         let surplus = store[store::used_bytes(expected.capacity, expected.ghost_limit)..].to_vec();
         mapcache::create(settings, &mut store).map_err(|refusal| format!("{refusal:?} of {settings}"))?;
-        let fed = Random::new(random.number());
-        let (counted, fed_counted) = (Counted::new(&mut random), Counted::new(&mut random));
-        let fed = Fed::new(&store, fed_counted, fed);
+        let fed = Fed::new(store.clone(), Random::new(random.number()));
         let pair = Pair {
             random,
-            plain: store.clone(),
             store,
-            counted,
             fed,
             surplus,
             original,
@@ -71,13 +63,13 @@ impl Pair {
         Ok(pair)
     }
 
-    /// Runs one call on both and compares replies, states, counters and what must not be touched. With the last call the stream
-    /// is ended and finished.
+    /// Runs one call on both and compares replies, states and what must not be touched. With the last call the stream is
+    /// ended and finished.
     pub fn call(&mut self, requests: &[Request], is_last: bool) -> Result<Agreed<'_>, String> {
-        let before = self.original.counters();
+        let ghost_hits = self.original.ghost_hits();
         let ending = is_last.then(|| self.fed.ending());
         self.answer_and_feed(requests, ending.as_ref())?;
-        let written = self.run(requests)?;
+        let written = self.run(requests).map_err(|refusal| format!("the library answers {refusal:?}"))?;
         let (replies, rest) = self.replies.split_at(written);
         let expected = &self.expected[self.owed..];
         if replies != expected {
@@ -87,18 +79,8 @@ impl Pair {
             return Err("the library wrote behind its replies".to_string());
         }
         let state = self.compare_states(&self.store)?;
-        let met = self.met(&before)?;
-        Ok(Agreed { replies: &self.replies[..written], state, met })
-    }
-
-    /// Holds the call's counters to the original's, and answers what was met since it had counted this.
-    fn met(&mut self, before: &Counters) -> Result<Vec<(&'static str, u64)>, String> {
-        let after = self.original.counters();
-        let wrapped = self.counted.compare(&after)?;
-        let mut met = std::mem::take(&mut self.fed.met);
-        met.extend(counted::moved(before, &after));
-        met.extend([("calls whose counters agree", 1), ("counters that went on at 0 in a call", wrapped)]);
-        Ok(met)
+        let ghost_hits = self.original.ghost_hits() - ghost_hits;
+        Ok(Agreed { replies: &self.replies[..written], state, ghost_hits, fed: std::mem::take(&mut self.fed.met) })
     }
 
     /// The original answers one request after the other. As soon as it has answered those that a piece completes, the piece
@@ -111,7 +93,7 @@ impl Pair {
         let mut pieces = pieces.iter().peekable();
         for answered in 0..=requests.len() {
             while let Some(piece) = pieces.next_if(|piece| piece.requests == answered) {
-                self.fed.feed(piece, &self.expected[given..], &self.original.counters())?;
+                self.fed.feed(piece, &self.expected[given..])?;
                 given = self.expected.len();
                 self.compare_states(&self.fed.store).map_err(|difference| format!("fed in pieces: {difference}"))?;
             }
@@ -123,8 +105,8 @@ impl Pair {
         ending.map_or(Ok(()), |ending| self.fed.finish(ending))
     }
 
-    /// Our side of a call, counted and plain: the reply buffer is as long as the requests' room asks, or somewhat longer.
-    fn run(&mut self, requests: &[Request]) -> Result<usize, String> {
+    /// Our side of a call: the reply buffer is as long as the requests' room asks, or somewhat longer.
+    fn run(&mut self, requests: &[Request]) -> Result<usize, Refusal> {
         let mut bytes = Vec::new();
         let mut room = 0;
         for request in requests {
@@ -136,13 +118,7 @@ impl Pair {
         }
         self.replies.clear();
         self.replies.resize(room, UNTOUCHED);
-        let mut plain_replies = self.replies.clone();
-        let answer = mapcache::run_counted(&mut self.store, &bytes, &mut self.replies, &mut self.counted.now);
-        let plain = mapcache::run(&mut self.plain, &bytes, &mut plain_replies);
-        if plain != answer || plain_replies != self.replies || self.plain != self.store {
-            return Err(format!("a plain call answers {plain:?}, a counted one {answer:?}, or their bytes differ"));
-        }
-        answer.map_err(|refusal| format!("the library answers {refusal:?}"))
+        mapcache::run(&mut self.store, &bytes, &mut self.replies)
     }
 
     /// Holds a store to the state that the original is in.

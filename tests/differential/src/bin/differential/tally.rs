@@ -1,6 +1,5 @@
 //! Counts what the runs came across. A kind of event that never came up would mean that nothing was compared there.
 
-use crate::counted::EACH;
 use crate::pair::Agreed;
 use mapcache::{GuestBlock, MOST_REQUEST_BYTES, PhysicalBlock, Reply, Request};
 use original::state::State;
@@ -14,7 +13,7 @@ pub struct Tally {
 }
 
 /// Each must come up.
-const EVENTS: [&str; 60] = [
+const EVENTS: [&str; 57] = [
     "calls",
     "calls of no request",
     "calls of one request",
@@ -45,6 +44,7 @@ const EVENTS: [&str; 60] = [
     "IN: EM, NW 1",
     "IN: EM, NW 2 or more",
     "IN: NW 10 or more",
+    "IN: ghost hits",
     "EV: EX",
     "EV: MI",
     "EV: ES, EX",
@@ -71,21 +71,12 @@ const EVENTS: [&str; 60] = [
     "streams finished, complete",
     "streams finished, cut",
     "streams finished, stopped",
-    "calls whose counters agree",
-    "pieces whose counters agree",
-    "counters that went on at 0 in a call",
-    "counters that went on at 0 in a feed",
 ];
-
-/// All that must come up: each counter must have been raised, too.
-fn events() -> impl Iterator<Item = &'static str> {
-    EVENTS.into_iter().chain(EACH)
-}
 
 impl Tally {
     pub fn new() -> Tally {
         Tally {
-            counts: events().map(|event| (event, 0)).collect(),
+            counts: EVENTS.into_iter().map(|event| (event, 0)).collect(),
             capacities: BTreeSet::new(),
             small_limits: BTreeSet::new(),
             ghost_limits: BTreeSet::new(),
@@ -112,8 +103,9 @@ impl Tally {
             rest = &rest[reports + 1..];
         }
         assert!(rest.is_empty(), "each reply belongs to a request");
+        self.add("IN: ghost hits", agreed.ghost_hits);
         self.state(&agreed.state);
-        agreed.met.iter().for_each(|(event, times)| self.add(event, *times));
+        agreed.fed.iter().for_each(|(event, times)| self.add(event, *times));
     }
 
     fn request(&mut self, request: Request) {
@@ -181,11 +173,11 @@ impl Tally {
 
     /// Prints all counts. The error names what never came up.
     pub fn report(&self) -> Result<(), String> {
-        for event in events() {
+        for event in EVENTS {
             println!("{:>12}  {event}", self.counts[event]);
         }
         let mut missing: Vec<String> =
-            events().filter(|event| self.counts[event] == 0).map(|event| event.to_string()).collect();
+            EVENTS.iter().filter(|event| self.counts[**event] == 0).map(|event| event.to_string()).collect();
         for (name, seen, wanted) in [
             ("capacities", &self.capacities, 1..=1024),
             ("Small limits", &self.small_limits, 0..=1024),
@@ -198,11 +190,6 @@ impl Tally {
             true => Ok(()),
             false => Err(format!("never came up: {}", missing.join("; "))),
         }
-    }
-
-    /// After how many calls and pieces the counters were compared.
-    pub fn counters_agreed(&self) -> (u64, u64) {
-        (self.counts["calls whose counters agree"], self.counts["pieces whose counters agree"])
     }
 
     fn count_if(&mut self, condition: bool, event: &'static str) {

@@ -1,5 +1,7 @@
 // What a stream carries from one feed to the next (RULES 7.4), in bytes that the caller lends: read and judged, written, and the record that was
 // cut put together with the start of the next piece. It knows no store and no engine.
+#![tactic(auto)]
+
 ghost use Rattle.std.specs.Prelude.{◌≡◌, true, ◌+◌, ◌≤◌, length, drop, replicate};
 ghost use Rattle.rules.specs.Bytes.{longest_record, spot_at};
 ghost use Rattle.rules.specs.Carry.{most_kept, waits, carry_bytes, kept_room};

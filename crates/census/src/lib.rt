@@ -1,5 +1,7 @@
 // The check of a key index in bytes that nobody vouches for (RULES 1.3): whether they index their live nodes. Heads and links may lead
 // anywhere. Nodes are counted: each is visited once and walked over at most once, so that no chosen keys make the check slow.
+#![tactic(auto)]
+
 ghost use Rattle.std.specs.Prelude.{◌<◌};
 ghost use Rattle.cells.specs.Decides.{Decides};
 ghost use Rattle.nodes.specs.Nodes.{Field, cols, Room, GetsField};

@@ -1,6 +1,8 @@
 // The numbers that the cache's own type and the crates below it fix, a name and a value to a line, ratios by the bits of the double. Header, wrapper and
 // tools are compared with what this prints (`make constants`), so that each number stands once in the proved code. The version is not among them: it would
 // stand a second time, in what this is to print.
+#![tactic(auto)]
+
 use libc::STDOUT_FILENO;
 use s3_fifo::S3FifoCache;
 

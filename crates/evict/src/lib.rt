@@ -1,5 +1,7 @@
 // Eviction on the store (RULES 4): the pop of a queue's tail, one step, and steps until a pair has left. The pops are counted by
 // walking.
+#![tactic(auto)]
+
 ghost use Rattle.std.specs.Prelude.{◌≡◌, ◌≤◌, ◌<◌, length, [], ◌∷◌};
 ghost use Rattle.rules.specs.State.{fresh, queue_of, residents};
 ghost use Rattle.rules.specs.Eviction.{evict, evict_if_full, tell};

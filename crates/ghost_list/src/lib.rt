@@ -1,5 +1,7 @@
 // The ghost list on the store (RULES 3): the original's `record`, `remove`, `evict_lru` and `clear`, each with what it
 // gives back. Keys are found by the index, and a key that moves to the front touches its neighbours only.
+#![tactic(auto)]
+
 ghost use Rattle.std.specs.Prelude.{◌≡◌, ◌≤◌};
 ghost use Rattle.rules.specs.State.{Queue, keyed};
 ghost use Rattle.store.specs.Holds.{state_in, Keeps, Held};

@@ -3,6 +3,8 @@
 // Standard input is a run of records, a letter and a number of 8 bytes, least significant first: N and a limit, for a new list; R and a key, record; D and a
 // key, remove; E, evict_lru; C, clear. A line is printed for each. At a record that is cut or has another letter, whose limit is too large, or before which
 // there is no list, that is said, and the run is over.
+#![tactic(auto)]
+
 ghost use Rattle.std.specs.Prelude.{◌≤◌, ◌≡◌, length};
 ghost use Rattle.rules.specs.State.{most};
 ghost use Rattle.rules.specs.Refusals.{store_bytes};

@@ -1,6 +1,8 @@
 // Parts of two requests, on the queues alone: evict_one's own pops (RULES 5.4), by which a pair is handed out and becomes no
 // ghost, or goes back to Main's head; and the drain of a queue, of which clear (RULES 5.5) needs two. An edit of the requests
 // rechecks neither.
+#![tactic(auto)]
+
 ghost use Rattle.std.specs.Prelude.{[], ◌∷◌, ◌≤◌, length};
 ghost use Rattle.rules.specs.State.{queue_of};
 ghost use Rattle.store.specs.Holds.{state_in, Keeps, Held};

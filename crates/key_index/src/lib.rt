@@ -2,6 +2,8 @@
 // in lent memory (RULES 1.3): a head for each bucket, and in each node a link to the next of its bucket,
 // in the order of their keys. The number of nodes ends a chain. It is a sentinel's: that leads to itself
 // and is free, so that of the end of a chain may be read what is read of a node.
+#![tactic(auto)]
+
 ghost use Rattle.std.specs.Prelude.{◌≡◌, ◌<◌};
 ghost use Rattle.nodes.specs.Nodes.{too_many_buckets, Field, cols, Room};
 ghost use Rattle.key_index.specs.Links.{Whole};

@@ -2,6 +2,8 @@
 // (RULES 1.3). Each is circular and doubly linked, with a sentinel of its own behind the nodes, so
 // that attach and detach have no branch. A node's field Queue is its list's number, and the header
 // keeps the lists' lengths.
+#![tactic(auto)]
+
 ghost use Rattle.std.specs.Prelude.{◌+◌, ◌<◌};
 ghost use Rattle.cells.specs.Decides.{Decides, All};
 ghost use Rattle.nodes.specs.Nodes.{Field, cols, Room, GetsField};

@@ -1,5 +1,7 @@
 // The library that hosts link (RULES 7): the cache's calls for C. A slice is a pointer and a length; an answer is one number,
 // the reply bytes or minus the refusal's number, and the refusal's detail goes out beside it. Each function states what the call below it states.
+#![tactic(auto)]
+
 ghost use Rattle.std.specs.Prelude.{◌≡◌, pos, neg_ℤ};
 ghost use Rattle.rules.specs.Refusals.{store_bytes};
 ghost use Rattle.s3_fifo.specs.Calls.{created_says, ran_says};

@@ -2,6 +2,8 @@
 // then for each field of a node a column, with four sentinels behind the nodes, then the heads of the
 // buckets, all in one lent slice of bytes (RULES 1.3; docs/STORE.md). A contract here speaks of columns alone, so
 // that nothing above sees a byte.
+#![tactic(auto)]
+
 ghost use Rattle.std.specs.Prelude.{◌+◌, ◌<◌};
 ghost use Rattle.nodes.specs.Nodes.{Field, Room, SetsField, GetsField};
 

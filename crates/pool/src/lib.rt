@@ -1,6 +1,8 @@
 // The slot pool with its free list (RULES 1.3): the lists and the key index joined. Every node is in
 // one of the four lists at all times, so a freed slot is used again, and those that are not free are
 // found by their keys. These are all the ways in which a node changes its list.
+#![tactic(auto)]
+
 ghost use Rattle.cells.specs.Decides.{Decides};
 ghost use Rattle.nodes.specs.Nodes.{cols, Room};
 ghost use Rattle.key_index.specs.Stored.{CanJoin};

@@ -2,6 +2,8 @@
 // many gave what is written there. The last argument names a file of steps, those before it files of cases.
 // A case: lengths of input and output, 4 bytes each; the input, which is settings and requests; the output, which is their replies on a fresh store.
 // A step: what `Step` has, in 32 bytes; input; output. All steps of a file work on one store.
+#![tactic(auto)]
+
 ghost use Rattle.std.specs.Prelude.{◌≡◌, ◌≤◌, length, replicate};
 ghost use Rattle.cells.specs.Decides.{Decides};
 ghost use Rattle.s3_fifo.specs.Calls.{gave, turned, created_says, ran_says};

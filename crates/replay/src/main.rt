@@ -1,5 +1,7 @@
 // The replay program (RULES 9): settings and requests from standard input, replies or one NO record to standard output, in binary.
 // What it writes for what it has read is one function over slices with its contract, `reply_within`; the rest reads and writes.
+#![tactic(auto)]
+
 ghost use Rattle.std.specs.Prelude.{◌≡◌, ◌-◌, ◌≤◌, length, take};
 ghost use Rattle.rules.specs.Refusals.{store_bytes};
 ghost use Rattle.rules.specs.Verdict.{on_asked};

@@ -1,5 +1,7 @@
 // The requests on the store (RULES 5): lookup, peek, remove, insert, evict_one and clear, each with the replies that the rules
 // give it. A key is looked up once a request. No request fails on a store that holds a sound state, and no number stands for "none".
+#![tactic(auto)]
+
 ghost use Rattle.std.specs.Prelude.{◌≡◌, ◌+◌, ◌<◌, min};
 ghost use Rattle.rules.specs.State.{max_freq};
 ghost use Rattle.rules.specs.Records.{Request};

@@ -1,5 +1,7 @@
 // Requests carried out one after the other (RULES 7.2, RULES 7.3) on a store that holds a state: those of a run of bytes, and those that a piece of a stream
 // completes, with the record that was cut before it. What is asked of the bytes and of the reply room is asked by the calls above.
+#![tactic(auto)]
+
 ghost use Rattle.std.specs.Prelude.{false, ◌++◌, ◌+◌, ◌≤◌, length, drop};
 ghost use Rattle.rules.specs.Bytes.{longest_record, encode_all, parse_from, parse};
 ghost use Rattle.rules.specs.Carry.{last_offset, carry_bytes, kept_room, left_by};

@@ -1,6 +1,8 @@
 // The mapping cache's whole calls (RULES 7): creation, running requests, and requests fed in pieces, as functions of the cache's own type. They ask nothing of
 // their caller: every byte that is lent is checked here, a call is turned away exactly in the cases of the table of refusals (RULES 8), and then no byte has
 // changed.
+#![tactic(auto)]
+
 ghost use Rattle.std.specs.Prelude.{◌≡◌, ◌≤◌, ◌<◌, length};
 ghost use Rattle.rules.specs.Sizing.{defaults_for};
 ghost use Rattle.rules.specs.Refusals.{store_bytes, most_request_bytes};

@@ -1,5 +1,7 @@
 // The sizing table (RULES 2.3) and boundary settings, as CF records from standard input: a line for each
 // record, to be compared with answers worked out from exact fractions (tools/make_sizes.py).
+#![tactic(auto)]
+
 ghost use Rattle.std.specs.Prelude.{◌≡◌};
 ghost use Rattle.rules.specs.State.{most};
 ghost use Rattle.sizing.specs.Answers.{sizing_of};

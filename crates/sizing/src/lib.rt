@@ -1,5 +1,7 @@
 // Sizing: from settings to the limits of the queues, or to a refusal with its number; and settings read
 // from the bytes of CF. It serves RULES 2, and of RULES 8 the refusals 1 to 5; CF is in RULES 9.
+#![tactic(auto)]
+
 ghost use Rattle.std.specs.Prelude.{◌≡◌, not, ◌≤◌, ◌<◌, ◌+◌, ◌^◌, length, T};
 ghost use Rattle.std.specs.Float.Ieee.{is_nan, of_bits};
 ghost use Rattle.std.specs.Float.{binary64};

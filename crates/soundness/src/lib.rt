@@ -1,5 +1,7 @@
 // The soundness check (RULES 1.2, RULES 1.3): whether bytes that nobody vouches for hold a sound state. Both answers are proved right: no damaged
 // store passes, and no store that holds a state is turned away. It walks the whole store, so a call asks it once.
+#![tactic(auto)]
+
 ghost use Rattle.std.specs.Prelude.{◌≤◌, ◌<◌, length};
 ghost use Rattle.cells.specs.Decides.{Decides, All};
 ghost use Rattle.nodes.specs.Nodes.{Room};

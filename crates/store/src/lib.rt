@@ -1,6 +1,8 @@
 // The one door to a store (RULES 1.3; docs/STORE.md): limits and lengths, where a key stands, the entry at a node, and the moves of a node, each
 // said in terms of the state that the store holds. The crates above call no crate below this one, and see no field: they hand over and get guest and
 // physical blocks, which are different types down to the field that is written.
+#![tactic(auto)]
+
 ghost use Rattle.std.specs.Prelude.{◌≡◌, ◌≤◌, ◌<◌, length};
 ghost use Rattle.cells.specs.Decides.{Decides};
 ghost use Rattle.nodes.specs.Nodes.{Room};

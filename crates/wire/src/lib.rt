@@ -1,5 +1,7 @@
 // Requests read from bytes and replies written as bytes (RULES 6): two-byte marks compared on reading and written before each reply,
 // one record at an offset, the walk over all records that gives their reply room or where they break off.
+#![tactic(auto)]
+
 ghost use Rattle.std.specs.Prelude.{◌≡◌, ◌++◌, ◌+◌, ◌≤◌, length};
 ghost use Rattle.rules.specs.Bytes.{bytes_of, encode, row, reading_at, parse_from, parse};
 ghost use Rattle.rules.specs.Refusals.{most_request_bytes};

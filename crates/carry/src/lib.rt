@@ -24,7 +24,7 @@ pub const HEAD_BYTES: usize = 18;
 const MOST_KEPT: usize = 17;
 
 // What the bytes lent to a feed or a finish say.
-#[derive(Drop)]
+#[derive(Clone, Copy)]
 pub enum Brought {
     // A stream that goes on: the offset of the first byte kept, and how many bytes are kept.
     Going(u64, usize),
@@ -35,7 +35,7 @@ pub enum Brought {
 }
 
 // What the bytes kept begin, with the piece behind them.
-#[derive(Drop)]
+#[derive(Clone, Copy)]
 pub enum Head {
     // A whole record of so many bytes; of none where no byte was kept.
     Whole(usize),

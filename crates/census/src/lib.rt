@@ -11,7 +11,7 @@ ghost use Rattle.census.specs.Check.{LeadsUp, EndOk, LinkOk, WalkSays, Behind, V
 use nodes::Shape;
 
 // What the check says of nodes that it looks at: how many are as they should be, or that there is no index.
-#[derive(Drop)]
+#[derive(Clone, Copy)]
 enum Census {
     Count(usize),
     Broken,

@@ -13,21 +13,21 @@ use rules::{GuestBlock, PhysicalBlock};
 use store::{QueueKind, Shape};
 
 // What a pop finds: the entry went to Main's head, or its frequency is 0, and it is still the tail, at a node, with its pair.
-#[derive(Drop)]
+#[derive(Clone, Copy)]
 pub enum Popped {
     Back,
     Cold(usize, GuestBlock, PhysicalBlock),
 }
 
 // What a step does: the popped entry went to Main's head, or it left.
-#[derive(Drop)]
+#[derive(Clone, Copy)]
 enum Turn {
     Moved(QueueKind),
     Left(QueueKind, GuestBlock, PhysicalBlock),
 }
 
 // The pair that was pushed out, and from which queue; or none.
-#[derive(Drop)]
+#[derive(Clone, Copy)]
 pub enum Pushed {
     Nothing,
     FromSmall(GuestBlock, PhysicalBlock),
@@ -35,7 +35,7 @@ pub enum Pushed {
 }
 
 // What an eviction comes to: the pair that left, and how many pops it took.
-#[derive(Drop)]
+#[derive(Clone, Copy)]
 pub struct Evicted {
     pub pushed: Pushed,
     pub pops: u64,

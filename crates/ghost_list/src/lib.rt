@@ -13,7 +13,7 @@ use rules::GuestBlock;
 use store::{Lookup, QueueKind, Shape};
 
 // What a call gives back: the key that it dropped, or nothing.
-#[derive(Drop)]
+#[derive(Clone, Copy)]
 pub enum Given {
     Key(GuestBlock),
     Nothing,

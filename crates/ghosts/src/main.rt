@@ -21,7 +21,7 @@ use store::Shape;
 const RECORD_BYTES: usize = 9;
 
 // What the list can do.
-#[derive(Drop)]
+#[derive(Clone, Copy)]
 enum Operation {
     Record(GuestBlock),
     Remove(GuestBlock),
@@ -30,7 +30,7 @@ enum Operation {
 }
 
 // What a record asks for.
-#[derive(Drop)]
+#[derive(Clone, Copy)]
 enum Wanted {
     New(u64),
     Of(Operation),
@@ -38,7 +38,7 @@ enum Wanted {
 }
 
 // What an operation answered.
-#[derive(Drop)]
+#[derive(Clone, Copy)]
 enum Answer {
     Dropped(GuestBlock),
     Nothing,
@@ -48,7 +48,7 @@ enum Answer {
 }
 
 // Where the run is: no list yet, a list in a store of this shape, or past a bad record.
-#[derive(Drop)]
+#[derive(Clone, Copy)]
 enum Stage {
     Before,
     Open(Shape),

@@ -16,7 +16,7 @@ use store::{QueueKind, Shape};
 use wire::Reply;
 
 // What one of evict_one's own pops does: the pair is handed out, or it went back to Main's head.
-#[derive(Drop)]
+#[derive(Clone, Copy)]
 enum Handing {
     Out(GuestBlock, PhysicalBlock),
     Back,

@@ -14,7 +14,7 @@ ghost use Rattle.key_index.specs.Stored.{col, LiveIn, Indexes, IsFound, CanJoin,
 use nodes::Shape;
 
 // What a lookup finds: the node that holds the key, or that none does.
-#[derive(Drop)]
+#[derive(Clone, Copy)]
 pub enum Found {
     At(usize),
     Nothing,

@@ -33,7 +33,7 @@ const NODE: usize = 24;
 const SENTINELS: usize = 4;
 
 // How many nodes a store has, without the sentinels, and how many buckets.
-#[derive(Drop)]
+#[derive(Clone, Copy)]
 pub struct Shape {
     pub room: usize,
     pub buckets: usize,

@@ -24,7 +24,7 @@ use sizing::{Read, Settings};
 const UNTOUCHED: u8 = 165;
 
 // What replaying one case or step gave.
-#[derive(Drop)]
+#[derive(Clone, Copy)]
 enum Case {
     Same,
     Differs,
@@ -35,7 +35,7 @@ enum Case {
 }
 
 // An answer: the refusal's number and detail, or 0, 0 and the number of reply bytes.
-#[derive(Drop)]
+#[derive(Clone, Copy)]
 struct Told {
     number: u64,
     detail: u64,
@@ -44,7 +44,7 @@ struct Told {
 
 // A step. Kind 0 fills the store with the byte `number`; 1 lays the input into it at `room`; 2 creates with the settings in the input; 3 runs the input's
 // requests with `room` bytes for replies. A call is lent the first `store` bytes, and must answer `number`, `detail` and the output.
-#[derive(Drop)]
+#[derive(Clone, Copy)]
 struct Step {
     kind: u32,
     store: usize,
@@ -56,7 +56,7 @@ struct Step {
 }
 
 // What the cases so far gave.
-#[derive(Drop)]
+#[derive(Clone, Copy)]
 struct Tally {
     taken: u64,
     differ: u64,

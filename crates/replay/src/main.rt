@@ -25,7 +25,7 @@ const MOST_INPUT_BYTES: usize = 32795;
 const NO: [u8; 2] = *b"NO";
 
 // What one read gave.
-#[derive(Drop)]
+#[derive(Clone, Copy)]
 enum Piece {
     Bytes(usize),
     End,
@@ -33,7 +33,7 @@ enum Piece {
 }
 
 // What reading to the end gave.
-#[derive(Drop)]
+#[derive(Clone, Copy)]
 enum Input {
     Bytes(usize),
     Failed,

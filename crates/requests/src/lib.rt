@@ -17,7 +17,7 @@ use store::{Lookup, QueueKind, Shape};
 use wire::Reply;
 
 // What a request answers: the pair that eviction pushed out, and the closing reply.
-#[derive(Drop)]
+#[derive(Clone, Copy)]
 pub struct Spoken {
     pub pushed: Pushed,
     pub closing: Reply,

@@ -22,7 +22,7 @@ use store::Shape;
 use wire::{Record, Reply, Stop};
 
 // What a feed answers.
-#[derive(Drop)]
+#[derive(Clone, Copy)]
 pub enum Fed {
     // So many reply bytes; the stream goes on.
     Done(usize),

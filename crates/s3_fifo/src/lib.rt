@@ -22,21 +22,21 @@ use store::Shape;
 use wire::Stop;
 
 // What a creation answers.
-#[derive(Drop)]
+#[derive(Clone, Copy)]
 pub enum Creation {
     Made,
     Refused(Turned),
 }
 
 // What a call answers: the number of reply bytes, or why it was turned away.
-#[derive(Drop)]
+#[derive(Clone, Copy)]
 pub enum Ran {
     Done(usize),
     Refused(Turned),
 }
 
 // What a finish answers.
-#[derive(Drop)]
+#[derive(Clone, Copy)]
 pub enum Finish {
     Complete,
     Refused(Turned),
@@ -111,7 +111,7 @@ fn feed_sound(
 }
 
 // The cache's own type. The cache itself stands in a store that the caller lends.
-#[derive(Drop)]
+#[derive(Clone, Copy)]
 pub struct S3FifoCache;
 
 impl S3FifoCache {

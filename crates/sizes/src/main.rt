@@ -10,7 +10,7 @@ ghost use Rattle.sizes.specs.Lines.{sized_line, line_for};
 use sizing::{Read, Settings, Sized};
 
 // What a line says.
-#[derive(Drop)]
+#[derive(Clone, Copy)]
 enum Line {
     // A capacity, Small's limit and that of the ghosts.
     Limits(u64, u64, u64),

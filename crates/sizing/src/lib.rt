@@ -18,7 +18,7 @@ const CF: [u8; 2] = *b"CF";
 pub const SETTINGS_BYTES: usize = 26;
 
 // The settings, one record: a capacity and two ratios.
-#[derive(Drop)]
+#[derive(Clone, Copy)]
 pub struct Settings {
     pub capacity: u64,
     pub small_ratio: f64,
@@ -26,7 +26,7 @@ pub struct Settings {
 }
 
 // What the settings come to.
-#[derive(Drop)]
+#[derive(Clone, Copy)]
 pub struct Limits {
     pub capacity: u64,
     pub small_limit: u64,
@@ -34,14 +34,14 @@ pub struct Limits {
 }
 
 // The limits that settings come to, or why they are refused.
-#[derive(Drop)]
+#[derive(Clone, Copy)]
 pub enum Sized {
     Accepted(Limits),
     Refused(Turned),
 }
 
 // What the bytes of a settings record ask for; or they are wrong or too few.
-#[derive(Drop)]
+#[derive(Clone, Copy)]
 pub enum Read {
     Asked(Settings),
     Bad,

@@ -15,7 +15,7 @@ use sizing::Limits;
 use store::{QueueKind, Shape};
 
 // What a store was found to be: sound, with its numbers of nodes and buckets, or damaged.
-#[derive(Drop)]
+#[derive(Clone, Copy)]
 pub enum Checked {
     Sound(Shape),
     Damaged,

@@ -24,14 +24,14 @@ use rules::{GuestBlock, PhysicalBlock};
 use sizing::Limits;
 
 // The two queues of residents.
-#[derive(Drop)]
+#[derive(Clone, Copy)]
 pub enum QueueKind {
     Small,
     Main,
 }
 
 // An entry: the pair and its frequency.
-#[derive(Drop)]
+#[derive(Clone, Copy)]
 pub struct Entry {
     pub key: GuestBlock,
     pub value: PhysicalBlock,
@@ -39,7 +39,7 @@ pub struct Entry {
 }
 
 // Where a key stands: resident at a node, a ghost at a node, or neither.
-#[derive(Drop)]
+#[derive(Clone, Copy)]
 pub enum Lookup {
     Resident(QueueKind, usize),
     Ghost(usize),

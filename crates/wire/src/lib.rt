@@ -9,7 +9,7 @@ ghost use Rattle.wire.specs.Wire.{told, meaning, Marked, Meets, Spots, Asks, sur
 
 use rules::{GuestBlock, Kind, PhysicalBlock};
 
-#[derive(Drop)]
+#[derive(Clone, Copy)]
 pub enum Request {
     Get(GuestBlock),
     Peek(GuestBlock),
@@ -19,7 +19,7 @@ pub enum Request {
     Clear,
 }
 
-#[derive(Drop)]
+#[derive(Clone, Copy)]
 pub enum Reply {
     Miss,
     Cleared,
@@ -33,21 +33,21 @@ pub enum Reply {
 }
 
 // What a row of the table says of a record whose mark was met.
-#[derive(Drop)]
+#[derive(Clone, Copy)]
 struct KnownRow {
     pub kind: Kind,
     pub bytes: usize,
     pub room: usize,
 }
 
-#[derive(Drop)]
+#[derive(Clone, Copy)]
 enum RowFound {
     Row(KnownRow),
     Nothing,
 }
 
 // What stands at an offset, by its mark and its length.
-#[derive(Drop)]
+#[derive(Clone, Copy)]
 enum Spot {
     At(KnownRow),
     // A mark that no row has.
@@ -58,7 +58,7 @@ enum Spot {
 }
 
 // What stands at an offset: a request with the offset after it, or why there is none.
-#[derive(Drop)]
+#[derive(Clone, Copy)]
 pub enum Record {
     Ask(Request, usize),
     Unknown,
@@ -67,7 +67,7 @@ pub enum Record {
 }
 
 // How the walk over all records ends.
-#[derive(Drop)]
+#[derive(Clone, Copy)]
 pub enum Stop {
     Whole,
     Unknown,
@@ -75,7 +75,7 @@ pub enum Stop {
 }
 
 // What all records ask for: the sum of their reply room, the offset where the walk ended, and how.
-#[derive(Drop)]
+#[derive(Clone, Copy)]
 pub struct Survey {
     pub room: usize,
     pub at: usize,

@@ -1,6 +1,6 @@
 -- A free node comes into the chain of its key: the walk to the key's place, and the index with the node in it.
 -- Assumes nothing.
-use mathlib.Core.Path.{◌≡◌, refl, sym, ◌∙◌, ap}
+use mathlib.Core.Path.{◌≡◌, refl, sym, ◌∙◌, ap, subst}
 use mathlib.Core.List.{List, [], ◌∷◌, ◌++◌}
 use mathlib.Core.Logic.{◌⊎◌, inl, inr, ◌≢◌}
 use Prim.Native.Nat.{ℕ, ◌≤◌, ◌<◌}
@@ -62,6 +62,7 @@ module _ {n buckets : ℕ} {key link head : ℕ → ℕ} {live : ℕ → Type 0}
   high y i = go g.back g.high (rw all at chain.clean.rising) i
     where
       go : (t : List ℕ) → ((z : ℕ) (r : List ℕ) → t ≡ z ∷ r → k ≤ key z) → Rises key (g.front ++ t) → In y t → k ≤ key y
+      go [] up r x4 = elim x4 [ ]
       go (z ∷ t) up r (inl q) = rw q (up z t refl)
       go (z ∷ t) up r (inr j) = let a = up z t refl in let c = rises_from key g.front z t r y j in omega arith
 
@@ -88,7 +89,7 @@ module _ {n buckets : ℕ} {key link head : ℕ → ℕ} {live : ℕ → Type 0}
     where
       here : (s : List ℕ) → p ≡ last n s → In p s
       here [] e = absurd (omega (arith, e, inside))
-      here (y ∷ s) e = rw e (in-last y s)
+      here (y ∷ s) e = subst (λ (z : ℕ). In z (y ∷ s)) (sym e) (in-last y s)
 
       go : (s : List ℕ) → Links n link (head b) (s ++ g.back) n → p ≡ last n s → (In x (s ++ g.back) → ⊥) → Links n link' (head b) (s ++ x ∷ g.back) n
       go [] w e o = absurd (omega (arith, e, inside))

@@ -13,6 +13,7 @@ use Rattle.key_index.proofs.LinksLaws.{in-append, in_split, in-more, in-less}
 
 -- what holds of every member holds of one
 every_in : (P : ℕ → Type 0) (y : ℕ) (xs : List ℕ) → Every P xs → In y xs → P y
+every_in P y [] h x'' = elim x'' [ ]
 every_in P y (x ∷ xs) h (inl e) = subst P (sym e) h.0
 every_in P y (x ∷ xs) h (inr i) = every_in P y xs h.1 i
 
@@ -92,10 +93,12 @@ nodup_parts (x ∷ s) t d =
 
 module _ (f : ℕ → ℕ) where
   pub in_map : (x : ℕ) (xs : List ℕ) → In x xs → In (f x) (map f xs)
+  in_map x [] x'' = elim x'' [ ]
   in_map x (y ∷ xs) (inl e) = inl (ap f e)
   in_map x (y ∷ xs) (inr i) = inr (in_map x xs i)
 
   pub map_in : (y : ℕ) (xs : List ℕ) → In y (map f xs) → (x : ℕ) × In x xs × (y ≡ f x)
+  map_in y [] x' = elim x' [ ]
   map_in y (x ∷ xs) (inl e) = (x, inl refl, e)
   map_in y (x ∷ xs) (inr i) = let r = map_in y xs i in (r.0, inr r.1, r.2)
 
@@ -104,6 +107,7 @@ module _ (f : ℕ → ℕ) where
   map-long (x ∷ xs) = ap suc (map-long xs)
 
   pub map-once : (xs : List ℕ) → Nodup (map f xs) → (x y : ℕ) → In x xs → In y xs → f x ≡ f y → x ≡ y
+  map-once [] d x y x6 _ e = elim x6 [ ]
   map-once (z ∷ xs) d x y (inl p) (inl q) e = rw (p, q)
   map-once (z ∷ xs) d x y (inl p) (inr j) e =
       let q : f z ≡ f y = ap f (sym p) ∙ e in absurd (not_in (f z) (map f xs) d.0 (rw q (in_map y xs j)))

@@ -35,6 +35,7 @@ module _ (key : ℕ → ℕ) where
 
   -- one key, one node
   pub rises_once : (xs : List ℕ) → Rises key xs → (x y : ℕ) → In x xs → In y xs → key x ≡ key y → x ≡ y
+  rises_once [] r x y x6 _ e = elim x6 [ ]
   rises_once (z ∷ xs) r x y (inl p) (inl q) e = rw (p, q)
   rises_once (z ∷ xs) r x y (inl p) (inr j) e = absurd (omega (arith, r.0 y j, ap key p, e))
   rises_once (z ∷ xs) r x y (inr i) (inl q) e = absurd (omega (arith, r.0 x i, ap key q, e))
@@ -53,6 +54,7 @@ rises_same key key' (x ∷ xs) e r =
 -- along a chain: the first key is the lowest, and each link leads to a larger key
 module _ (n : ℕ) (key f : ℕ → ℕ) where
   pub lowest : (h : ℕ) (xs : List ℕ) (e : ℕ) → Links n f h xs e → Rises key xs → (y : ℕ) → In y xs → key h ≤ key y
+  lowest h [] e w r y x3 = elim x3 [ ]
   lowest h (x ∷ xs) e w r y (inl q) = omega (arith, ap key w.0, ap key q)
   lowest h (x ∷ xs) e w r y (inr i) = omega (arith, ap key w.0, r.0 y i)
 

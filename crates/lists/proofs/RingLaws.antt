@@ -1,6 +1,6 @@
 -- Laws of rings: a node more, a node less, another ring's change, the two ends, the walk.
 -- Assumes nothing.
-use mathlib.Core.Path.{◌≡◌, refl, sym, ap}
+use mathlib.Core.Path.{◌≡◌, refl, sym, ap, subst}
 use mathlib.Core.Logic.{◌≢◌}
 use mathlib.Core.List.{List, [], ◌∷◌, ◌++◌}
 use Prim.Native.Nat.{ℕ, ◌≤◌, ◌<◌}
@@ -59,7 +59,7 @@ pub attach_other : (N : ℕ) (nx pv : List ℕ) (s : ℕ) (l : List ℕ) → Rin
 unfolding attach_nx attach_pv
 attach_other N nx pv s l r t x ot ox pn =
     let n : ℕ = get_or nx t 0 in
-    let on : Out n (s ∷ l) = ring-out_pv N nx pv s l r n (rw pn ot) in
+    let on : Out n (s ∷ l) = ring-out_pv N nx pv s l r n (subst (λ (z : ℕ). Out z (s ∷ l)) (sym pn) ot) in
     let r₁ : Ring N (set nx x n) pv s l = ring_nx N nx pv s l r x n ox in
     let r₂ : Ring N (set (set nx x n) t x) pv s l = ring_nx N (set nx x n) pv s l r₁ t x ot in
     let r₃ : Ring N (set (set nx x n) t x) (set pv x t) s l = ring_pv N (set (set nx x n) t x) pv s l r₂ x t ox in

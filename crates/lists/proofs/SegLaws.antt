@@ -1,6 +1,6 @@
 -- Laws of segments: ways from one node to another along the two columns.
 -- Assumes nothing.
-use mathlib.Core.Path.{◌≡◌, refl, sym, ap, ◌∙◌}
+use mathlib.Core.Path.{◌≡◌, refl, sym, ap, ◌∙◌, subst}
 use mathlib.Core.Logic.{◌≢◌}
 use mathlib.Core.List.{List, [], ◌∷◌, ◌++◌}
 use Prim.Native.Nat.{ℕ, zero, suc, ◌≤◌, ◌<◌}
@@ -75,7 +75,7 @@ module _ (nx pv : List ℕ) (x p n : ℕ) (np : get_or nx p 0 ≡ x) (pn : get_o
   -- x is not on the way: the way stays
   pub keep : (u : ℕ) (l : List ℕ) (v : ℕ) → Out x (u ∷ l) → v ≢ x → Seg nx pv u l v → Seg (set nx p n) (set pv n p) u l v
   keep u l v o m h =
-      let on : Out n l × (v ≢ n) = out_pv nx pv n u l v h (rw pn o) in
+      let on : Out n l × (v ≢ n) = out_pv nx pv n u l v h (subst (λ (z : ℕ). Out z (u ∷ l)) (sym pn) o) in
       seg_pv (set nx p n) pv n p u l v on.0 on.1 (seg_nx nx pv p n u l v (out_nx nx pv p u l v h (rw np o.1) (rw np m)) h)
 
   module _ (xp : get_or pv x 0 ≡ p) (xn : get_or nx x 0 ≡ n) (pl : p < length nx) (nl : n < length pv) where
@@ -113,7 +113,7 @@ module _ (nx pv : List ℕ) (x u : ℕ) (ul : u < length nx) (xl : x < length nx
       let h₂ : Seg nx₂ pv y l v = seg_nx (set nx x y) pv u x y l v p h₁ in
       let h₃ : Seg nx₂ (set pv x u) y l v = seg_pv nx₂ pv x u y l v o.1.1 m h₂ in
       let k : Link nx₂ (set (set pv x u) y x) u x × Link nx₂ (set (set pv x u) y x) x y = links y al.0 o.0 o.1.0 in
-      rw h.0.0
+      subst (λ (z : ℕ). Seg (set (set nx x z) u x) (set (set pv x u) z x) u (x ∷ y ∷ l) v) (sym h.0.0)
       (k.0, (k.1, seg_pv nx₂ (set pv x u) y x y l v (no_return nx pv y l v h.1 q.1) (λ e. q.0 (sym e)) h₃))
 
 -- ---- the ends of a segment, and the walk along it

@@ -248,7 +248,7 @@ unfolding feed_on
 feed-two σ c a b = go c.stopped refl
   where
     go : (t : Bool) → c.stopped ≡ t → on_carry σ c (a ++ b) t ≡ and_then (on_carry σ c a t) (λ τ d. on_carry τ d b d.stopped)
-    go true e = rw e refl
+    go true e = subst (λ (t : Bool). on_carry σ c (a ++ b) true ≡ after_replies [] (on_carry σ c b t)) (sym e) refl
     go false e =
         ap (λ (l : List ℕ). flowing σ c.offset l (parse l)) (sym (append_assoc c.kept a b))
         ∙ parts σ c.offset (c.kept ++ a) b (parse (c.kept ++ a)).requests (parse (c.kept ++ a)).end (parse-parts (c.kept ++ a) b)

@@ -249,7 +249,7 @@ history-formed σ (r ∷ rs) s z = (apply-formed σ r s, history-formed (apply �
 history-asked : (σ : State) (rs : List Request) → map asking (history σ rs) ≡ rs
 unfolding history
 history-asked σ [] = refl
-history-asked σ (r ∷ rs) = ap (λ l. r ∷ l) (history-asked _ rs)
+history-asked σ (r ∷ rs) = ap (λ l. r ∷ l) (history-asked (apply σ r).state rs)
 
 pub history-read : (σ : State) (rs : List Request) → Sound σ → AllNarrow rs → ReadAs rs (encode_all (run σ rs).replies) (history σ rs)
 history-read σ rs s z =

@@ -94,7 +94,7 @@ module _ {n buckets : ℕ} {key link head : ℕ → ℕ} {live : ℕ → Type 0}
       go : (s : List ℕ) → Links n link (head b) (s ++ g.back) n → p ≡ last n s → (In x (s ++ g.back) → ⊥) → Links n link' (head b) (s ++ x ∷ g.back) n
       go [] w e o = absurd (omega (arith, e, inside))
       go (y ∷ s) w e o =
-          let x-p : x ≢ p = (λ q. o (in-append x (y ∷ s) g.back (inl (rw (q, e) (in-last y s))))) in (
+          let x-p : x ≢ p = (λ q. o (in-append x (y ∷ s) g.back (inl (subst (λ (z : ℕ). In z (y ∷ s)) (sym (q ∙ e)) (in-last y s))))) in (
             w.0,
             w.1,
             link_in n link link' x g.back below s y (rw (← e) pp.same) (pp.other x x-p ∙ pl.same ∙ ap link e)

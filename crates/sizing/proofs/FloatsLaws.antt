@@ -5,11 +5,11 @@ use mathlib.Core.Bool.{true, false, not, true≢false, false≢true}
 use lib.Ieee.{Float, nan, inf, fin, is_nan, lt}
 use Rattle.rules.specs.Sizing.{nought, is_bad_ratio}
 
-pub is_nan : (x : Float) → is_nan x ≡ true → x ≡ nan
+pub is-nan : (x : Float) → is_nan x ≡ true → x ≡ nan
 unfolding is_nan
-is_nan nan h = refl
-is_nan (inf s) h = absurd (false≢true h)
-is_nan (fin s m e) h = absurd (false≢true h)
+is-nan nan h = refl
+is-nan (inf s) h = absurd (false≢true h)
+is-nan (fin s m e) h = absurd (false≢true h)
 
 -- below zero
 pub bad_below : (x : Float) → lt x nought ≡ true → true ≡ is_bad_ratio x

@@ -39,6 +39,10 @@ or-le a b t = go (ltb a b) (ltb→lt a b)
 
 value-le : (x : Float) (g l : ℕ) (y : Float) (c : ℕ) → HasValue x false g l → HasValue y false c 1 → T (le x y) → T (finite x) × (num x ≤ c * den x)
 unfolding le
+value-le nan g l y c v w h = elim v [ ]
+value-le (inf _) g l y c v w h = elim v [ ]
+value-le (fin false m e) g l nan c v w h = elim w [ ]
+value-le (fin false m e) g l (inf _) c v w h = elim w [ ]
 value-le (fin true m e) g l y c v w h = absurd (true≢false v.0)
 value-le (fin false m e) g l (fin true n d) c v w h = absurd (true≢false w.0)
 value-le (fin false m e) g l (fin false n d) c v w h = (
@@ -55,6 +59,8 @@ rounded-le f x y c (number g v) w h = value-le x g (2 ^ low f) y c v w h
 rounded-le f x y c (endless e) w h = absurd (no_inf y w (subst (λ (z : Float). T (le z y)) e h))
   where
     no_inf : (y : Float) → HasValue y false c 1 → T (le (inf false) y) → ⊥
+    no_inf nan w h = elim w [ ]
+    no_inf (inf _) w h = elim w [ ]
     no_inf (fin t n d) w h = h
 
 -- ---- the size of a float: the sign cleared
@@ -96,4 +102,8 @@ mag_same (fin s m e) c h = h
 
 pub mul-mag : (x r : Float) → T (finite x) → T (finite r) → mag (mul binary64 x r) ≡ round binary64 false (num x * num r) (den x * den r)
 unfolding mul
+mul-mag nan r f g = elim f [ ]
+mul-mag (inf _) r f g = elim f [ ]
+mul-mag (fin s m e) nan f g = elim g [ ]
+mul-mag (fin s m e) (inf _) f g = elim g [ ]
 mul-mag (fin s m e) (fin t n d) f g = mag_round binary64 (unlike s t) (m * up e * (n * up d)) (down e * down d)

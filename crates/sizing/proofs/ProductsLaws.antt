@@ -52,6 +52,8 @@ module _ {c : ℕ} {r : Float} (F : Factors c r) where
   d = den cap * den r
 
   value_finite : (x : Float) → HasValue x false c 1 → T (finite x)
+  value_finite nan v = elim v [ ]
+  value_finite (inf _) v = elim v [ ]
   value_finite (fin s m e) v = tt
 
   size_is : mag (product c r) ≡ round binary64 false n d

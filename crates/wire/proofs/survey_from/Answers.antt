@@ -1,0 +1,24 @@
+-- `wire::survey_from` meets its contract.
+use borrow.Author.Rules.{rules}
+use Prim.Native.Nat.{◌-◌}
+use lib.ListN.{length}
+use Rattle.wire.proofs.SpotLaws.{spot_fits}
+use Rattle.wire.proofs.SurveyLaws.{Surveying, survey_start, room_fits, survey_less, survey_next, survey_unknown, survey_cut, survey_whole}
+use Rattle.wire.proofs.survey_from.Goals as goal
+
+ruleset laws = (rules, spot_fits, survey_start, room_fits, survey_less, survey_next, survey_unknown, survey_cut, survey_whole)
+
+pub loop-known-smaller : goal.loop-known-smaller
+loop-known-smaller c = search laws
+
+pub loop-known-preserved : goal.loop-known-preserved
+loop-known-preserved c = search laws
+
+pub returns-in-Unknown : goal.returns-in-Unknown
+returns-in-Unknown c = search laws
+
+pub returns-in-Cut : goal.returns-in-Cut
+returns-in-Cut c = search laws
+
+pub returns-in-End : goal.returns-in-End
+returns-in-End c = search laws

@@ -36,6 +36,7 @@ module _ (t : ℕ → ℕ) where
 
   pub ones-are : (n y : ℕ) → In y (ones t n) → (y < n) × (0 < t y)
   unfolding ones
+  ones-are zero y i = elim i [ ]
   ones-are (suc n) y i = go (t n) refl (ones-are n y) i
     where
       go : (r : ℕ) → t n ≡ r → (In y (ones t n) → (y < n) × (0 < t y)) → In y (keep r n (ones t n)) → (y < suc n) × (0 < t y)

@@ -191,6 +191,8 @@ module _ (n buckets : ℕ) (key link head : ℕ → ℕ) (live : ℕ → Type 0)
               from : (xs : List ℕ) → Links n link (top y) xs n → ((w : ℕ) → In w xs → live w × (bucket_of (key w) buckets ≡ bucket_of (key y) buckets))
                   → Rises key xs
                   → In y xs → In y g.nodes
+              from [] w sound r x5 = elim x5 [ ]
+              from (h ∷ []) w sound r (inr i) = elim i [ ]
               from (h ∷ xs) w sound r (inl e) =
                   g.first y (omega (arith, below y l, done)) l (w.0 ∙ sym e)
               from (h ∷ v ∷ xs) w sound r (inr i) =
@@ -210,6 +212,7 @@ second-clean {n} {buckets} {key} {link} {head} {live} {x} ix some s =
     go : (xs : List ℕ) → Links n link (head (bucket_of (key x) buckets)) xs n
         → ((y : ℕ) → In y xs → live y × (bucket_of (key y) buckets ≡ bucket_of (key x) buckets)) → Rises key xs → In x xs
         → Clean n buckets key link live (bucket_of (key x) buckets) x
+    go [] w sound r i = elim i [ ]
     go (h ∷ xs) w sound r i =
         let e : link h ≡ x = rw w.0 at s.link-is in
         record { whole = record { nodes = xs; links = rw e at w.2 }; sound = λ y j. sound y (inr j); rising = r.1 }

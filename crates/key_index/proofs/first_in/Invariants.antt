@@ -1,0 +1,14 @@
+-- `key_index::first_in` meets its contract.
+use Rattle.nodes.specs.Nodes.{Key, Chain, cols}
+use Rattle.key_index.specs.Stored.{col}
+use Rattle.key_index.proofs.FewLaws.{depth}
+use Rattle.key_index.proofs.FindLaws.{Seen, seen_none}
+use Rattle.key_index.proofs.PassedLaws.{passed_start}
+use Rattle.key_index.proofs.StoreLaws.{walk-found, walk-next, walk-less}
+use Rattle.key_index.proofs.first_in.Given as goal
+
+abbrev pub invariant-loop-at : goal.invariant-loop-at
+invariant-loop-at l = Seen l.z.room (col (cols l.z l.s Key)) (col (cols l.z l.s Chain)) l.k l.h l.at
+
+abbrev pub decreases-loop-at : goal.decreases-loop-at
+decreases-loop-at l = depth l.z.room (col (cols l.z l.s Chain)) l.z.room l.at

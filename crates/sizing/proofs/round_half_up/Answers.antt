@@ -1,0 +1,20 @@
+-- `sizing::round_half_up` meets its contract: by the exponent's field the result is 0, 2 ^ 52 or the shifted digits.
+use borrow.Author.Rules.{rules}
+use native.Mathlib.Nat.{div-le_self}
+use native.Mathlib.Omega.{arith}
+use Prim.Native.Nat.{◌+◌, ◌-◌, ◌^◌}
+use lib.Ieee.{binary64, to_bits}
+use Rattle.sizing.specs.NearestBits.{field, digits}
+use Rattle.sizing.proofs.PatternsLaws.{cut_low, cut_high, cut-middle}
+use Rattle.sizing.proofs.round_half_up.Goals as goal
+
+ruleset laws = (rules, cut_low, cut_high, cut-middle)
+
+pub returns-then-field-lt1022 : goal.returns-then-field-lt1022
+returns-then-field-lt1022 c = search laws
+
+pub returns-then-field-gt1074 : goal.returns-then-field-gt1074
+returns-then-field-gt1074 c = search laws
+
+pub returns : goal.returns
+returns c = cut_low _ (search rules) (search rules) (search rules)

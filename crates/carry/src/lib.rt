@@ -53,7 +53,7 @@ fn lay_out(form: &mut [u8], offset: u64, stopped: bool, from: &[u8], at: usize)
     cells::put64(form, 0, offset);
     cells::put8(form, COUNT_AT, (from.len() - at) as u8);
     cells::put8(form, STOPPED_AT, stopped as u8);
-    bytes::copy(&from[at..], &mut form[KEPT_AT..]);
+    cells::copy(&from[at..], &mut form[KEPT_AT..]);
 }
 
 // Writes the record. The bytes kept are those of `from` from `at` on.
@@ -63,7 +63,7 @@ pub fn put(carry: &mut [u8], offset: u64, stopped: bool, from: &[u8], at: usize)
 {
     let mut form = [0u8; rules::CARRY_BYTES];
     lay_out(&mut form, offset, stopped, from, at);
-    bytes::copy(&form, carry);
+    cells::copy(&form, carry);
 }
 
 // Whether the bytes lent are the one form of what they say: nothing else stands in them.
@@ -79,7 +79,7 @@ fn is_form(carry: &[u8], offset: u64, count: usize, stopped: bool) -> bool
         &carry[KEPT_AT..KEPT_AT + count],
         0,
     );
-    check::same(&carry[0..rules::CARRY_BYTES], &form)
+    cells::same(&carry[0..rules::CARRY_BYTES], &form)
 }
 
 // A record that says that the stream has stopped: nothing is kept, and both bytes of the mark have come.
@@ -153,9 +153,9 @@ fn fill_head(carry: &[u8], count: usize, piece: &[u8], head: &mut [u8]) -> usize
     requires { (carry_bytes ≤ length carry.now) × (count ≤ most_kept) × (length head.old ≡ longest_record) }
     ensures { HeadFilled (kept_in carry.now count) piece.now head.new result }
 {
-    bytes::copy(&carry[KEPT_AT..KEPT_AT + count], head);
+    cells::copy(&carry[KEPT_AT..KEPT_AT + count], head);
     let more = lesser(piece.len(), HEAD_BYTES - count);
-    bytes::copy(&piece[0..more], &mut head[count..]);
+    cells::copy(&piece[0..more], &mut head[count..]);
     count + more
 }
 

@@ -151,7 +151,7 @@ fn read_both(fd: i32, input: &mut [u8], n: usize, output: &mut [u8], m: usize) -
 fn same(a: &[u8], b: &[u8]) -> bool
     ensures { Decides (a.now ≡ b.now) result }
 {
-    check::same(a, b)
+    cells::same(a, b)
 }
 
 // Whether a and b are the same from a place on.
@@ -220,7 +220,7 @@ fn lay(store: &mut [u8], at: usize, piece: &[u8]) -> bool
     if store.len() - at < piece.len() {
         return false;
     }
-    bytes::copy(piece, &mut store[at..]);
+    cells::copy(piece, &mut store[at..]);
     true
 }
 
@@ -268,7 +268,7 @@ fn create_step(s: Step, input: &[u8], store: &mut [u8], before: &mut [u8]) -> bo
     if store.len() < s.store {
         return false;
     }
-    bytes::copy(store, before);
+    cells::copy(store, before);
     match sizing::read_settings(input) {
         Read::Bad => false,
         Read::Asked(settings) => {
@@ -283,7 +283,7 @@ fn prepare(store: &[u8], before: &mut [u8], out: &mut [u8])
     requires { length store.now ≡ length before.old }
     ensures { Prepared store.now (length out.old) before.new out.new }
 {
-    bytes::copy(store, before);
+    cells::copy(store, before);
     fill(out, UNTOUCHED);
 }
 

@@ -203,7 +203,7 @@ fn replay() {
 
 // The one argument that the program knows asks for its version.
 fn tell(argument: &[u8]) {
-    if check::same(argument, b"--version") {
+    if cells::same(argument, b"--version") {
         io::write_all(STDOUT_FILENO, b"mapcache-replay ");
         io::write_all(STDOUT_FILENO, &S3FifoCache::VERSION);
         io::write_all(STDOUT_FILENO, b"\n");

@@ -11,5 +11,5 @@ unfolding div of_bits
 returns-then-x c = search laws
 
 pub returns : goal.returns
-unfolding of_bits
-returns c = search bad_below
+unfolding div of_bits
+returns c = search laws

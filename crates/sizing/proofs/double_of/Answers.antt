@@ -6,15 +6,15 @@ use lib.Dec.{T}
 use lib.Ieee.{binary64, of_bits, div}
 use lib.Ieee.Bits.{nan_bits_is, nan_bits_above}
 use borrow.Author.Tests.{lt-ltb, le-ltb}
-use Rattle.sizing.proofs.FloatsLaws.{is_nan}
+use Rattle.sizing.proofs.FloatsLaws.{is-nan}
 use Rattle.sizing.proofs.double_of.Goals as goal
-
-ruleset laws = (rules, is_nan)
 
 pub returns-then-bits-gt9218868437227405312 : goal.returns-then-bits-gt9218868437227405312
 unfolding div of_bits
-returns-then-bits-gt9218868437227405312 c = search laws
+returns-then-bits-gt9218868437227405312 c =
+    sym
+    (is-nan _ (sym (nan_bits_is binary64 c.args.bits) ∙ nan_bits_above binary64 c.args.bits ∙ lt-ltb _ _ c.if-bits-gt9218868437227405312.true))
 
 pub float_from_bits-result : goal.float_from_bits-result
-unfolding div of_bits
-float_from_bits-result c = search laws
+float_from_bits-result c =
+    subst (λ b. T (not b)) (sym (nan_bits_above binary64 c.args.bits ∙ le-ltb _ _ c.if-bits-gt9218868437227405312.false)) tt

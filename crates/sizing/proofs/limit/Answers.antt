@@ -15,4 +15,4 @@ round_half_up-requires c = search laws
 
 pub returns : goal.returns
 unfolding product
-returns c = c.round-half-up.ensures
+returns c = c.round_half_up.ensures

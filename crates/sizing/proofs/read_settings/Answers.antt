@@ -15,4 +15,4 @@ pub returns-then-s-2 : goal.returns-then-s-2
 returns-then-s-2 c = search laws
 
 pub returns : goal.returns
-returns c = search short
+returns c = search laws

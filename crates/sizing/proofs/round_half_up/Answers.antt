@@ -17,4 +17,4 @@ pub returns-then-field-gt1074 : goal.returns-then-field-gt1074
 returns-then-field-gt1074 c = search laws
 
 pub returns : goal.returns
-returns c = cut_low _ (search rules) (search rules) (search rules)
+returns c = search laws

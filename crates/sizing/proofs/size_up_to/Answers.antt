@@ -31,4 +31,9 @@ unfolding of_bits
 returns-then-top-ghost_limit c = search laws
 
 pub returns : goal.returns
-returns c = search is_1
+unfolding of_bits
+returns c =
+    let small : SmallFits c.args.top c.args.s.capacity c.args.s.small_ratio =
+    record { room = search rules; ratio = cc; most = c.if-small_ratio.false } in
+    let p : RatiosFit c.args.top c.args.s.capacity c.args.s.small_ratio c.args.s.ghost_ratio = record { small = small; ratio = cc } in
+    simp (c.limit-small_limit.ensures, c.limit-ghost_limit.ensures) (accepted p (search rules))

@@ -1,0 +1,10 @@
+-- `evict::evict` meets its contract.
+use Rattle.evict.proofs.LoopLaws.{Going, heat, going_start, going_few, going_next, going_less, going_end}
+use native.Mathlib.Omega.{arith}
+use Rattle.evict.proofs.evict.Given as goal
+
+abbrev pub invariant-loop-q : goal.invariant-loop-q
+invariant-loop-q l = Going l.z l.initial.s l.s l.pops
+
+abbrev pub decreases-loop-q : goal.decreases-loop-q
+decreases-loop-q l = heat l.z l.s

@@ -1,10 +1,6 @@
 -- `key_index::bucket_of_key` meets its contract.
 use borrow.Author.Rules.{rules}
-use native.Mathlib.Omega.{arith}
-use native.Mathlib.Nat.{mul-le-mul}
-use Prim.Native.Nat.{ℕ, ◌≤◌, ◌<◌, ◌*◌, ◌^◌}
 use mathlib.Core.Path.{refl}
-use Rattle.nodes.specs.Nodes.{too_many_buckets}
 use Rattle.key_index.specs.Index.{bucket_of}
 use Rattle.key_index.proofs.IndexLaws.{bucket-below}
 use Rattle.key_index.proofs.bucket_of_key.Goals as goal

@@ -1,8 +1,6 @@
 -- `key_index::empty_buckets` meets its contract.
 use borrow.Author.Rules.{rules}
-use Prim.Native.Nat.{◌-◌}
-use Rattle.cells.proofs.TurnsLaws.{Turns}
-use Rattle.key_index.proofs.SetUpLaws.{EmptyingBuckets, emptying_start, emptying_next, emptying_end}
+use Rattle.key_index.proofs.SetUpLaws.{emptying_start, emptying_next, emptying_end}
 use Rattle.key_index.proofs.empty_buckets.Goals as goal
 
 ruleset laws = (rules, emptying_start, emptying_next, emptying_end)

@@ -1,7 +1,7 @@
 -- `key_index::empty_buckets` meets its contract.
 use Prim.Native.Nat.{◌-◌}
 use Rattle.cells.proofs.TurnsLaws.{Turns}
-use Rattle.key_index.proofs.SetUpLaws.{EmptyingBuckets, emptying_start, emptying_next, emptying_end}
+use Rattle.key_index.proofs.SetUpLaws.{EmptyingBuckets}
 use Rattle.key_index.proofs.empty_buckets.Given as goal
 
 abbrev pub invariant-loop-b : goal.invariant-loop-b

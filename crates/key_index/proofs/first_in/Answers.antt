@@ -1,9 +1,7 @@
 -- `key_index::first_in` meets its contract.
 use borrow.Author.Rules.{rules}
-use Rattle.nodes.specs.Nodes.{Key, Chain, cols}
-use Rattle.key_index.specs.Stored.{col}
 use Rattle.key_index.proofs.FewLaws.{depth}
-use Rattle.key_index.proofs.FindLaws.{Seen, seen_none}
+use Rattle.key_index.proofs.FindLaws.{seen_none}
 use Rattle.key_index.proofs.PassedLaws.{passed_start}
 use Rattle.key_index.proofs.StoreLaws.{walk-found, walk-next, walk-less}
 use Rattle.key_index.proofs.first_in.Goals as goal

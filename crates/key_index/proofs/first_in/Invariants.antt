@@ -2,9 +2,7 @@
 use Rattle.nodes.specs.Nodes.{Key, Chain, cols}
 use Rattle.key_index.specs.Stored.{col}
 use Rattle.key_index.proofs.FewLaws.{depth}
-use Rattle.key_index.proofs.FindLaws.{Seen, seen_none}
-use Rattle.key_index.proofs.PassedLaws.{passed_start}
-use Rattle.key_index.proofs.StoreLaws.{walk-found, walk-next, walk-less}
+use Rattle.key_index.proofs.FindLaws.{Seen}
 use Rattle.key_index.proofs.first_in.Given as goal
 
 abbrev pub invariant-loop-at : goal.invariant-loop-at

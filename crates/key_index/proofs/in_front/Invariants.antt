@@ -3,8 +3,7 @@ use lib.ListN.{get_or}
 use Rattle.nodes.specs.Nodes.{Chain, cols}
 use Rattle.key_index.specs.Stored.{col}
 use Rattle.key_index.proofs.FewLaws.{depth}
-use Rattle.key_index.proofs.RemoveLaws.{Way, way_start}
-use Rattle.key_index.proofs.StoreLaws.{way_found, way_on-to, way_less}
+use Rattle.key_index.proofs.RemoveLaws.{Way}
 use Rattle.key_index.proofs.in_front.Given as goal
 
 abbrev pub invariant-loop-z : goal.invariant-loop-z

@@ -1,9 +1,7 @@
 -- `key_index::place_of` meets its contract.
 use borrow.Author.Rules.{rules}
-use Rattle.nodes.specs.Nodes.{Key, Chain, cols}
-use Rattle.key_index.specs.Stored.{col}
 use Rattle.key_index.proofs.FewLaws.{depth}
-use Rattle.key_index.proofs.AddLaws.{Under, under-start}
+use Rattle.key_index.proofs.AddLaws.{under-start}
 use Rattle.key_index.proofs.StoreLaws.{place_found, place-next, walk-less, place_end}
 use Rattle.key_index.proofs.place_of.Goals as goal
 

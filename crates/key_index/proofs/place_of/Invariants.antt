@@ -2,8 +2,7 @@
 use Rattle.nodes.specs.Nodes.{Key, Chain, cols}
 use Rattle.key_index.specs.Stored.{col}
 use Rattle.key_index.proofs.FewLaws.{depth}
-use Rattle.key_index.proofs.AddLaws.{Under, under-start}
-use Rattle.key_index.proofs.StoreLaws.{place_found, place-next, walk-less, place_end}
+use Rattle.key_index.proofs.AddLaws.{Under}
 use Rattle.key_index.proofs.place_of.Given as goal
 
 abbrev pub invariant-loop-at : goal.invariant-loop-at

@@ -1,8 +1,5 @@
 -- `key_index::remove` meets its contract.
 use borrow.Author.Rules.{rules}
-use Rattle.nodes.specs.Nodes.{Chain, cols}
-use Rattle.key_index.specs.Walks.{Goes}
-use Rattle.key_index.specs.Stored.{col}
 use Rattle.key_index.proofs.StoreLaws.{leads, unchains_first, unchains_later}
 use Rattle.key_index.proofs.remove.Goals as goal
 

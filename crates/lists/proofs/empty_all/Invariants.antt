@@ -1,7 +1,7 @@
 -- `lists::empty_all` meets its contract: the lists below t are empty.
 use Rattle.cells.proofs.TurnsLaws.{Turns}
 use Rattle.lists.specs.Lists.{list_count}
-use Rattle.lists.proofs.FreshLaws.{EmptyingLists, emptying_start, emptying_next, emptying_end}
+use Rattle.lists.proofs.FreshLaws.{EmptyingLists}
 use Prim.Native.Nat.{◌-◌}
 use Rattle.lists.proofs.empty_all.Given as goal
 

@@ -1,9 +1,6 @@
 -- `lists::free_all` meets its contract: the nodes below x are free.
 use borrow.Author.Rules.{rules}
-use Rattle.cells.proofs.TurnsLaws.{Turns}
-use Rattle.lists.specs.Fresh.{Fresh}
 use Rattle.lists.proofs.FreshLaws.{freeing_start, freeing_push, freeing_next, freeing_end}
-use Prim.Native.Nat.{◌-◌}
 use Rattle.lists.proofs.free_all.Goals as goal
 
 ruleset laws = (rules, freeing_start, freeing_push, freeing_next, freeing_end)

@@ -3,8 +3,7 @@ use borrow.Author.Rules.{rules}
 use borrow.Author.Tests.{lt-ltb}
 use mathlib.Core.Path.{ap}
 use mathlib.Core.Bool.{not}
-use native.Mathlib.Omega.{arith}
-use Rattle.lists.proofs.CheckLaws.{Pairing, pair-start, bad_one, bad_two, pair-next, bad_rest, pair_end}
+use Rattle.lists.proofs.CheckLaws.{pair-start, bad_one, bad_two, pair-next, bad_rest, pair_end}
 use Rattle.lists.proofs.pair_ok.Goals as goal
 
 ruleset laws = (rules, pair-start, bad_one, bad_two, bad_rest, pair_end)

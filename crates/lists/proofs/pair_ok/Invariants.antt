@@ -1,7 +1,5 @@
 -- `lists::pair_ok` meets its contract: of each list, what leads home from where its walk stands does so exactly if the whole list does.
-use borrow.Author.Tests.{ltb-true}
-use native.Mathlib.Omega.{arith}
-use Rattle.lists.proofs.CheckLaws.{Pairing, pair-start, bad_one, bad_two, pair-next, bad_rest, pair_end}
+use Rattle.lists.proofs.CheckLaws.{Pairing}
 use Rattle.lists.proofs.pair_ok.Given as goal
 
 abbrev pub invariant-loop-a : goal.invariant-loop-a

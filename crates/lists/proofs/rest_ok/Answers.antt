@@ -1,7 +1,6 @@
 -- `lists::rest_ok` meets its contract: what leads home from where the walk stands does so exactly if the whole rest does.
 use borrow.Author.Rules.{rules}
-use Rattle.lists.specs.Check.{Leads}
-use Rattle.lists.proofs.CheckLaws.{Walking, walk_start, walk-next, walk_bad, walk_end}
+use Rattle.lists.proofs.CheckLaws.{walk_start, walk-next, walk_bad, walk_end}
 use Rattle.lists.proofs.rest_ok.Goals as goal
 
 ruleset laws = (rules, walk_start, walk-next, walk_bad, walk_end)

@@ -1,6 +1,6 @@
 -- `lists::rest_ok` meets its contract: what leads home from where the walk stands does so exactly if the whole rest does.
 use Rattle.lists.specs.Check.{Leads}
-use Rattle.lists.proofs.CheckLaws.{Walking, walk_start, walk-next, walk_bad, walk_end}
+use Rattle.lists.proofs.CheckLaws.{Walking}
 use Rattle.lists.proofs.rest_ok.Given as goal
 
 abbrev pub invariant-loop-left : goal.invariant-loop-left

@@ -9,7 +9,7 @@ pub returns-then-store-lt-STORE_BYTES : goal.returns-then-store-lt-STORE_BYTES
 returns-then-store-lt-STORE_BYTES c = search laws
 
 pub run_sound-requires : goal.run_sound-requires
-run_sound-requires c = search laws
+run_sound-requires c = (search checked-held, search rules, search rules)
 
 pub returns-in-Damaged : goal.returns-in-Damaged
 returns-in-Damaged c = search laws

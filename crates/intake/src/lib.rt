@@ -1,0 +1,31 @@
+// What the programs share to take their input in: a buffer, and reading until it is full.
+#![tactic(auto)]
+
+ghost use Rattle.std.specs.Prelude.{◌≡◌, ◌≤◌, length};
+
+use std::io::Read;
+
+// The bytes of a large buffer.
+pub const LARGE_BUFFER_BYTES: usize = 65536;
+
+// Zeros, of which the contract gives the number alone, so that no proof has to write them out.
+pub fn large_buffer() -> [u8; LARGE_BUFFER_BYTES]
+    ensures { 65536 ≡ length result }
+{
+    [0; LARGE_BUFFER_BYTES]
+}
+
+// Reads until buf is full, the input ends or a read fails, and says how many bytes came.
+pub fn read_full<R: Read>(from: &mut R, buf: &mut [u8]) -> usize
+    ensures { result ≤ length buf.new }
+{
+    let mut done = 0;
+    while done < buf.len() {
+        match from.read(&mut buf[done..]) {
+            Ok(0) => break,
+            Ok(n) => done += n,
+            Err(_) => break,
+        }
+    }
+    done
+}

@@ -1,9 +1,6 @@
 -- `census::count_heads` meets its contract.
 use borrow.Author.Rules.{rules}
-use Prim.Native.Nat.{◌-◌}
-use Rattle.nodes.specs.Nodes.{cols}
-use Rattle.census.specs.Check.{leads}
-use Rattle.census.proofs.CountLaws.{CountedTo, counted_start, counted_next, counted-fits, counted-end}
+use Rattle.census.proofs.CountLaws.{counted_start, counted_next, counted-fits, counted-end}
 use Rattle.census.proofs.count_heads.Goals as goal
 
 ruleset laws = (rules, counted_start, counted_next, counted-fits, counted-end)

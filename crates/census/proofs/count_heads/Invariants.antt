@@ -2,7 +2,7 @@
 use Prim.Native.Nat.{◌-◌}
 use Rattle.nodes.specs.Nodes.{cols}
 use Rattle.census.specs.Check.{leads}
-use Rattle.census.proofs.CountLaws.{CountedTo, counted_start, counted_next, counted-fits, counted-end}
+use Rattle.census.proofs.CountLaws.{CountedTo}
 use Rattle.census.proofs.count_heads.Given as goal
 
 abbrev pub invariant-loop-b : goal.invariant-loop-b

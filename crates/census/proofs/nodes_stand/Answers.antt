@@ -1,7 +1,6 @@
 -- `census::nodes_stand` meets its contract.
 use borrow.Author.Rules.{rules}
-use Prim.Native.Nat.{◌-◌}
-use Rattle.census.proofs.StandLaws.{Standing, standing_start, standing_broken, standing_fits}
+use Rattle.census.proofs.StandLaws.{standing_start, standing_broken, standing_fits}
 use Rattle.census.proofs.StandLaws.{standing_next, standing_sum, standing_uneven, standing_end}
 use Rattle.census.proofs.nodes_stand.Goals as goal
 

@@ -1,7 +1,6 @@
 -- `census::nodes_stand` meets its contract.
 use Prim.Native.Nat.{◌-◌}
-use Rattle.census.proofs.StandLaws.{Standing, standing_start, standing_broken, standing_fits}
-use Rattle.census.proofs.StandLaws.{standing_next, standing_sum, standing_uneven, standing_end}
+use Rattle.census.proofs.StandLaws.{Standing}
 use Rattle.census.proofs.nodes_stand.Given as goal
 
 abbrev pub invariant-loop-x : goal.invariant-loop-x

@@ -1,7 +1,6 @@
 -- `census::walk` meets its contract.
 use borrow.Author.Rules.{rules}
-use Prim.Native.Nat.{◌-◌}
-use Rattle.census.proofs.CheckLaws.{Walks, walks_start, walks_fits, walks_less, walks_broken, walks_next, walks_end}
+use Rattle.census.proofs.CheckLaws.{walks_start, walks_fits, walks_less, walks_broken, walks_next, walks_end}
 use Rattle.census.proofs.walk.Goals as goal
 
 ruleset laws = (rules, walks_start, walks_fits, walks_less, walks_broken, walks_next, walks_end)

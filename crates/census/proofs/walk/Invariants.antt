@@ -1,6 +1,6 @@
 -- `census::walk` meets its contract.
 use Prim.Native.Nat.{◌-◌}
-use Rattle.census.proofs.CheckLaws.{Walks, walks_start, walks_fits, walks_less, walks_broken, walks_next, walks_end}
+use Rattle.census.proofs.CheckLaws.{Walks}
 use Rattle.census.proofs.walk.Given as goal
 
 abbrev pub invariant-loop-at : goal.invariant-loop-at

@@ -1,6 +1,5 @@
 -- `pool::fill` meets its contract: the newest free node gets the entry, and goes to the head of its list.
 use borrow.Author.Rules.{rules}
-use Rattle.pool.specs.Relist.{CanRelist}
 use Rattle.pool.proofs.FillLaws.{fill_joins, fill_relist, filled}
 use Rattle.pool.proofs.fill.Goals as goal
 

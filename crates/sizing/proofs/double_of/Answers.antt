@@ -1,5 +1,4 @@
 -- `sizing::double_of` meets its contract: which patterns are a NaN's is one comparison, and 0 / 0 is the NaN.
-use borrow.Author.Rules.{rules}
 use mathlib.Core.Path.{sym, ◌∙◌, subst}
 use mathlib.Core.Bool.{not}
 use lib.Dec.{T}

@@ -1,7 +1,5 @@
 -- `sizing::limit` meets its contract: the capacity is a float exactly, and the product is no NaN.
 use borrow.Author.Rules.{rules}
-use Prim.Native.Nat.{◌^◌}
-use lib.Dec.{le→leb}
 use lib.Ieee.{in_float}
 use Rattle.rules.specs.Sizing.{product}
 use Rattle.sizing.proofs.ProductsLaws.{product_no_nan}

@@ -1,10 +1,5 @@
 -- `sizing::round_half_up` meets its contract: by the exponent's field the result is 0, 2 ^ 52 or the shifted digits.
 use borrow.Author.Rules.{rules}
-use native.Mathlib.Nat.{div-le_self}
-use native.Mathlib.Omega.{arith}
-use Prim.Native.Nat.{◌+◌, ◌-◌, ◌^◌}
-use lib.Ieee.{binary64, to_bits}
-use Rattle.sizing.specs.NearestBits.{field, digits}
 use Rattle.sizing.proofs.PatternsLaws.{cut_low, cut_high, cut-middle}
 use Rattle.sizing.proofs.round_half_up.Goals as goal
 

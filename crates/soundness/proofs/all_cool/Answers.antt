@@ -1,9 +1,6 @@
 -- `soundness::all_cool` meets its contract: the nodes below x are tested.
 use borrow.Author.Rules.{rules}
-use Prim.Native.Nat.{◌-◌}
-use Rattle.cells.specs.Decides.{AllTo}
 use Rattle.cells.proofs.DecidesLaws.{all_start, all_bad, all-next, all_end}
-use Rattle.soundness.specs.Checks.{Cool}
 use Rattle.soundness.proofs.all_cool.Goals as goal
 
 ruleset laws = (rules, all_start, all_bad, all-next, all_end)

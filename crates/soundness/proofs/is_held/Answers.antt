@@ -1,6 +1,5 @@
 -- `soundness::is_held` meets its contract: the pool first, then the numbers, then the freqs.
 use borrow.Author.Rules.{rules}
-use Rattle.cells.specs.Cells.{Bytes}
 use Rattle.soundness.proofs.CheckLaws.{no_pool, pool-keeps, too_many, all_decide}
 use Rattle.soundness.proofs.is_held.Goals as goal
 

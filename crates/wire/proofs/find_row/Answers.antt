@@ -1,9 +1,7 @@
 -- `wire::find_row` meets its contract. The number of rows that the loop goes by is the length of the table, once that is unfolded.
 use borrow.Author.Rules.{rules}
-use Prim.Native.Nat.{◌-◌}
-use lib.ListN.{length}
 use Rattle.rules.specs.Bytes.{table}
-use Rattle.wire.proofs.SpotLaws.{Seeking, seek-start, seek_found, seek-next, seek-over}
+use Rattle.wire.proofs.SpotLaws.{seek-start, seek_found, seek-next, seek-over}
 use Rattle.wire.proofs.find_row.Goals as goal
 
 ruleset laws = (rules, seek-start, seek_found, seek-next, seek-over)

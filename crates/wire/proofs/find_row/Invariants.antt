@@ -2,7 +2,7 @@
 use Prim.Native.Nat.{◌-◌}
 use lib.ListN.{length}
 use Rattle.rules.specs.Bytes.{table}
-use Rattle.wire.proofs.SpotLaws.{Seeking, seek-start, seek_found, seek-next, seek-over}
+use Rattle.wire.proofs.SpotLaws.{Seeking}
 use Rattle.wire.proofs.find_row.Given as goal
 
 abbrev pub invariant-loop-i : goal.invariant-loop-i

@@ -1,7 +1,5 @@
 -- `wire::put_mark` meets its contract.
 use borrow.Author.Rules.{rules}
-use native.Mathlib.Omega.{arith}
-use lib.ListN.{length-set}
 use Rattle.wire.proofs.SpliceLaws.{wrote-mark}
 use Rattle.wire.proofs.put_mark.Goals as goal
 

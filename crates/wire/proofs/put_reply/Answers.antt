@@ -1,6 +1,5 @@
 -- `wire::put_reply` meets its contract: in each arm the reply is known, and with it its size and its bytes.
 use borrow.Author.Rules.{rules}
-use native.Mathlib.Omega.{arith}
 use Rattle.wire.proofs.SpliceLaws.{reply_size, wrote_reply}
 use Rattle.wire.proofs.put_reply.Goals as goal
 

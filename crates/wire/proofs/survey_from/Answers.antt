@@ -1,9 +1,7 @@
 -- `wire::survey_from` meets its contract.
 use borrow.Author.Rules.{rules}
-use Prim.Native.Nat.{◌-◌}
-use lib.ListN.{length}
 use Rattle.wire.proofs.SpotLaws.{spot_fits}
-use Rattle.wire.proofs.SurveyLaws.{Surveying, survey_start, room_fits, survey_less, survey_next, survey_unknown, survey_cut, survey_whole}
+use Rattle.wire.proofs.SurveyLaws.{survey_start, room_fits, survey_less, survey_next, survey_unknown, survey_cut, survey_whole}
 use Rattle.wire.proofs.survey_from.Goals as goal
 
 ruleset laws = (rules, spot_fits, survey_start, room_fits, survey_less, survey_next, survey_unknown, survey_cut, survey_whole)

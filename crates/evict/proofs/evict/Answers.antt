@@ -1,7 +1,6 @@
 -- `evict::evict` meets its contract.
 use borrow.Author.Rules.{rules}
-use Rattle.evict.proofs.LoopLaws.{Going, heat, going_start, going_few, going_next, going_less, going_end}
-use native.Mathlib.Omega.{arith}
+use Rattle.evict.proofs.LoopLaws.{heat, going_start, going_few, going_next, going_less, going_end}
 use Rattle.evict.proofs.evict.Goals as goal
 
 ruleset laws = (rules, heat, going_start, going_few, going_next, going_less, going_end)

@@ -1,6 +1,5 @@
 -- `evict::evict` meets its contract.
-use Rattle.evict.proofs.LoopLaws.{Going, heat, going_start, going_few, going_next, going_less, going_end}
-use native.Mathlib.Omega.{arith}
+use Rattle.evict.proofs.LoopLaws.{Going, heat}
 use Rattle.evict.proofs.evict.Given as goal
 
 abbrev pub invariant-loop-q : goal.invariant-loop-q

@@ -1,5 +1,5 @@
 -- `ghost_list::clear` meets its contract.
-use Rattle.ghost_list.proofs.GhostLaws.{Clearing, ghosts_left, clearing_start, clearing_next, clearing_less, clearing_end}
+use Rattle.ghost_list.proofs.GhostLaws.{Clearing, ghosts_left}
 use Rattle.ghost_list.proofs.clear.Given as goal
 
 abbrev pub invariant-loop-z : goal.invariant-loop-z

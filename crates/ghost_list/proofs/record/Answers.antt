@@ -1,6 +1,5 @@
 -- `ghost_list::record` meets its contract.
 use borrow.Author.Rules.{rules}
-use native.Mathlib.Omega.{arith}
 use Rattle.store.proofs.LookLaws.{looks_ghost_seated, looks_lacks}
 use Rattle.ghost_list.proofs.GhostLaws.{recorded-zero, recorded-there, not-resident}
 use Rattle.ghost_list.proofs.record.Goals as goal

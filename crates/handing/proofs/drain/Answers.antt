@@ -1,8 +1,7 @@
 -- `handing::drain` meets its contract.
 use borrow.Author.Rules.{rules}
 use Rattle.store.proofs.LookLaws.{tail_seated}
-use Rattle.handing.proofs.DrainLaws.{Draining, left, draining_start, draining_next, draining_less, draining_end}
-use Rattle.store.specs.Seats.{queue_kind}
+use Rattle.handing.proofs.DrainLaws.{left, draining_start, draining_next, draining_less, draining_end}
 use Rattle.handing.proofs.drain.Goals as goal
 
 ruleset laws = (rules, tail_seated, left, draining_start, draining_next, draining_less, draining_end)

@@ -1,6 +1,5 @@
 -- `handing::drain` meets its contract.
-use Rattle.store.proofs.LookLaws.{tail_seated}
-use Rattle.handing.proofs.DrainLaws.{Draining, left, draining_start, draining_next, draining_less, draining_end}
+use Rattle.handing.proofs.DrainLaws.{Draining, left}
 use Rattle.store.specs.Seats.{queue_kind}
 use Rattle.handing.proofs.drain.Given as goal
 

@@ -15,10 +15,11 @@ ghost use Rattle.recorded.specs.Steps.{ReadPart, CreatedIn, RanIn, Laid, step_of
 ghost use Rattle.recorded.specs.Steps.{OrBroken, NextStep, NextCase, TurnTaken};
 ghost use Rattle.recorded.specs.Steps.{Prepared, CreateStepped, CallStepped, RunStepped, Stepped, StepWent, CaseRun, CaseWent};
 
-use libc::STDOUT_FILENO;
 use rules::Turned;
 use s3_fifo::{Creation, Ran, S3FifoCache};
 use sizing::{Read, Settings};
+use std::rt::Files;
+use std::{env, fs, io};
 
 // What stands in the reply buffer before a call, so that untouched bytes can be told.
 const UNTOUCHED: u8 = 165;
@@ -128,23 +129,29 @@ fn all_are(s: &[u8], byte: u8) -> bool
 }
 
 // Reads exactly n bytes to the start of buf, and answers whether there were so many.
-fn read_part(fd: i32, buf: &mut [u8], n: usize) -> bool
+fn read_part<R: io::Read>(from: &mut R, buf: &mut [u8], n: usize) -> bool
     ensures { ReadPart n buf.new result }
 {
     if buf.len() < n {
         return false;
     }
-    io::read_full(fd, &mut buf[0..n]) == n
+    intake::read_full(from, &mut buf[0..n]) == n
 }
 
 // Reads n bytes of input, and after them m bytes of output.
-fn read_both(fd: i32, input: &mut [u8], n: usize, output: &mut [u8], m: usize) -> bool
+fn read_both<R: io::Read>(
+    from: &mut R,
+    input: &mut [u8],
+    n: usize,
+    output: &mut [u8],
+    m: usize,
+) -> bool
     ensures { ReadPart n input.new result × ReadPart m output.new result }
 {
-    if !read_part(fd, input, n) {
+    if !read_part(from, input, n) {
         return false;
     }
-    read_part(fd, output, m)
+    read_part(from, output, m)
 }
 
 // Whether a and b are the same bytes.
@@ -446,8 +453,8 @@ fn case_with(
 }
 
 // Reads what the step s says, and takes it.
-fn read_step(
-    fd: i32,
+fn read_step<R: io::Read>(
+    from: &mut R,
     s: Step,
     input: &mut [u8],
     output: &mut [u8],
@@ -458,15 +465,15 @@ fn read_step(
     requires { length store.old ≡ length before.old }
     ensures { OrBroken (StepWent s input.new output.new store.old (length out.old) result store.new) result }
 {
-    if !read_both(fd, input, s.input, output, s.output) {
+    if !read_both(from, input, s.input, output, s.output) {
         return Case::Broken;
     }
     step_with(s, input, output, store, before, out)
 }
 
 // The next step of a file.
-fn one_step(
-    fd: i32,
+fn one_step<R: io::Read>(
+    from: &mut R,
     input: &mut [u8],
     output: &mut [u8],
     store: &mut [u8],
@@ -477,19 +484,19 @@ fn one_step(
     ensures { NextStep input.new output.new store.old (length out.old) result store.new }
 {
     let mut head = [0u8; 32];
-    let got = io::read_full(fd, &mut head);
+    let got = intake::read_full(from, &mut head);
     if got == 0 {
         return Case::End;
     }
     if got < 32 {
         return Case::Broken;
     }
-    read_step(fd, step_of(&head), input, output, store, before, out)
+    read_step(from, step_of(&head), input, output, store, before, out)
 }
 
 // Reads a case of n and m bytes, and takes it.
-fn read_case(
-    fd: i32,
+fn read_case<R: io::Read>(
+    from: &mut R,
     n: usize,
     m: usize,
     input: &mut [u8],
@@ -500,19 +507,25 @@ fn read_case(
     requires { store_bytes ≤ length store.old }
     ensures { OrBroken (CaseWent n m input.new output.new (length out.old) result) result }
 {
-    if !read_both(fd, input, n, output, m) {
+    if !read_both(from, input, n, output, m) {
         return Case::Broken;
     }
     case_with(n, m, input, output, store, out)
 }
 
 // The next case of a file.
-fn one_case(fd: i32, input: &mut [u8], output: &mut [u8], store: &mut [u8], out: &mut [u8]) -> Case
+fn one_case<R: io::Read>(
+    from: &mut R,
+    input: &mut [u8],
+    output: &mut [u8],
+    store: &mut [u8],
+    out: &mut [u8],
+) -> Case
     requires { store_bytes ≤ length store.old }
     ensures { NextCase input.new output.new (length out.old) result }
 {
     let mut head = [0u8; 8];
-    let got = io::read_full(fd, &mut head);
+    let got = intake::read_full(from, &mut head);
     if got == 0 {
         return Case::End;
     }
@@ -521,7 +534,7 @@ fn one_case(fd: i32, input: &mut [u8], output: &mut [u8], store: &mut [u8], out:
     }
     let n = cells::get32(&head, 0) as usize;
     let m = cells::get32(&head, 4) as usize;
-    read_case(fd, n, m, input, output, store, out)
+    read_case(from, n, m, input, output, store, out)
 }
 
 // One more, as far as there are numbers.
@@ -532,10 +545,8 @@ fn more(n: u64) -> u64
 }
 
 // Names what does not agree, by its number in the file, from 1 on.
-fn complain(number: u64) {
-    io::write_all(STDOUT_FILENO, b"not as recorded: number ");
-    io::print_decimal(STDOUT_FILENO, number);
-    io::write_all(STDOUT_FILENO, b"\n");
+fn complain(rt: &impl Print, number: u64) -> io::Result<()> {
+    println!(rt; "not as recorded: number {number}")
 }
 
 // The tally after one more.
@@ -549,15 +560,12 @@ fn counted(t: Tally, c: Case) -> Tally
             going: true,
             whole: true,
         },
-        Case::Differs => {
-            complain(more(t.taken));
-            Tally {
-                taken: more(t.taken),
-                differ: more(t.differ),
-                going: true,
-                whole: true,
-            }
-        }
+        Case::Differs => Tally {
+            taken: more(t.taken),
+            differ: more(t.differ),
+            going: true,
+            whole: true,
+        },
         Case::End => Tally {
             taken: t.taken,
             differ: t.differ,
@@ -574,8 +582,8 @@ fn counted(t: Tally, c: Case) -> Tally
 }
 
 // One more case or step.
-fn turn(
-    fd: i32,
+fn turn<R: io::Read>(
+    from: &mut R,
     steps: bool,
     t: Tally,
     input: &mut [u8],
@@ -588,24 +596,26 @@ fn turn(
     ensures { TurnTaken steps t input.new output.new store.old (length out.old) result store.new }
 {
     if steps {
-        let c = one_step(fd, input, output, store, before, out);
+        let c = one_step(from, input, output, store, before, out);
         counted(t, c)
     } else {
-        let c = one_case(fd, input, output, store, out);
+        let c = one_case(from, input, output, store, out);
         counted(t, c)
     }
 }
 
-// All of a file. Nothing says that a file ends, so the loop counts its turns down, from a number that no run uses up.
-fn replay_all(
-    fd: i32,
+// All of a file; what does not agree is named as soon as it is met. Nothing says that a file ends, so the loop counts its turns down, from a number that no
+// run uses up.
+fn replay_all<P: Print, R: io::Read>(
+    rt: &P,
+    from: &mut R,
     steps: bool,
     input: &mut [u8],
     output: &mut [u8],
     store: &mut [u8],
     before: &mut [u8],
     out: &mut [u8],
-) -> Tally
+) -> io::Result<Tally>
     requires { (store_bytes ≤ length store.old) × (length store.old ≡ length before.old) }
 {
     let mut t = Tally {
@@ -616,60 +626,62 @@ fn replay_all(
     };
     let mut left = u64::MAX;
     while left > 0 && t.going {
-        t = turn(fd, steps, t, input, output, store, before, out);
+        let next = turn(from, steps, t, input, output, store, before, out);
+        if next.differ != t.differ {
+            complain(rt, next.taken)?;
+        }
+        t = next;
         left -= 1;
     }
-    t
+    Ok(t)
 }
 
-fn print_tally(t: Tally) {
-    io::print_decimal(STDOUT_FILENO, t.taken);
-    io::write_all(STDOUT_FILENO, b" replayed, ");
-    io::print_decimal(STDOUT_FILENO, t.differ);
-    io::write_all(STDOUT_FILENO, b" differ");
+fn print_tally(rt: &impl Print, t: Tally) -> io::Result<()> {
+    let taken = t.taken;
+    let differ = t.differ;
+    print!(rt; "{taken} replayed, {differ} differ")?;
     if !t.whole {
-        io::write_all(STDOUT_FILENO, b", and the file is broken");
+        print!(rt; ", and the file is broken")?;
     }
-    io::write_all(STDOUT_FILENO, b"\n");
+    println!(rt)
 }
 
-fn replay_fd(fd: i32, steps: bool) {
-    let mut input = io::large_buffer();
-    let mut output = io::large_buffer();
-    let mut store = io::large_buffer();
-    let mut before = io::large_buffer();
-    let mut out = io::large_buffer();
-    print_tally(replay_all(
-        fd,
+fn replay_fd<P: Print, R: io::Read>(rt: &P, from: &mut R, steps: bool) -> io::Result<()> {
+    let mut input = intake::large_buffer();
+    let mut output = intake::large_buffer();
+    let mut store = intake::large_buffer();
+    let mut before = intake::large_buffer();
+    let mut out = intake::large_buffer();
+    let tally = replay_all(
+        rt,
+        from,
         steps,
         &mut input,
         &mut output,
         &mut store,
         &mut before,
         &mut out,
-    ));
+    )?;
+    print_tally(rt, tally)
 }
 
-// Replays the file that argument i names.
-fn replay_arg(i: usize, steps: bool) {
-    let mut path = io::buffer();
-    let n = os::arg(i, &mut path);
-    io::write_all(STDOUT_FILENO, &path[..n]);
-    let fd = os::open_read(&path[..n]);
-    if fd < 0 {
-        io::write_all(STDOUT_FILENO, b": cannot be opened\n");
-        return;
+// Replays the file that an argument names.
+fn replay_arg<R: Files + Print>(rt: &R, path: &str, steps: bool) -> io::Result<()> {
+    print!(rt; "{path}")?;
+    match fs::open(rt, path) {
+        Ok(mut file) => {
+            print!(rt; ": ")?;
+            replay_fd(rt, &mut file, steps)
+        }
+        Err(_) => println!(rt; ": cannot be opened"),
     }
-    io::write_all(STDOUT_FILENO, b": ");
-    replay_fd(fd, steps);
-    libc::close(fd);
 }
 
-fn main() {
-    let count = os::arg_count();
-    let mut i = 1;
-    while i < count {
-        replay_arg(i, count - i == 1);
-        i += 1;
+fn main(rt: HostRuntime) -> io::Result<()> {
+    let args = env::args(&rt)?;
+    let count = args.len();
+    for (i, path) in args.enumerate().skip(1) {
+        replay_arg(&rt, path.as_str(), i + 1 == count)?;
     }
+    Ok(())
 }

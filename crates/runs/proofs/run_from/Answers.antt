@@ -1,8 +1,6 @@
 -- `runs::run_from` meets its contract.
 use borrow.Author.Rules.{rules}
-use Rattle.runs.proofs.RunLaws.{Midway, midway_start, midway_held, midway_fits, midway_less, midway_next, midway_end, midway_unknown, midway_cut}
-use Prim.Native.Nat.{◌-◌}
-use lib.ListN.{length}
+use Rattle.runs.proofs.RunLaws.{midway_start, midway_held, midway_fits, midway_less, midway_next, midway_end, midway_unknown, midway_cut}
 use Rattle.runs.proofs.run_from.Goals as goal
 
 ruleset laws = (rules, midway_start, midway_held, midway_fits, midway_less, midway_next, midway_end, midway_unknown, midway_cut)

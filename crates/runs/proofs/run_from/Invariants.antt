@@ -1,5 +1,5 @@
 -- `runs::run_from` meets its contract.
-use Rattle.runs.proofs.RunLaws.{Midway, midway_start, midway_held, midway_fits, midway_less, midway_next, midway_end, midway_unknown, midway_cut}
+use Rattle.runs.proofs.RunLaws.{Midway}
 use Prim.Native.Nat.{◌-◌}
 use lib.ListN.{length}
 use Rattle.runs.proofs.run_from.Given as goal

@@ -2,14 +2,14 @@
 #
 #   make                   the library and the replay program
 #   make run [TRACE=file]  a trace in text through the replay program, its answers in text
-#   make library           the archive that hosts link, target/staticlib/libmapcache.a
-#   make replay            the replay program, target/bin/replay
+#   make library           the archive that hosts link, crates/mapcache/out/libmapcache.a
+#   make replay            the replay program, crates/replay/out/replay
 #   make tidy              nothing unused, no long line, no name with two meanings, one door to the store, no rule cited in vain, no
 #                          promise in proofs/ (tools/tidy); what has to be believed is listed (tools/believe)
 #   make gate-test         the gate's order, failures and last line, tried with an rt that proves nothing
 #   make store-example     the bytes that docs/STORE.md shows are those that the library writes
 #   make chains            the table of docs/STORE.md on chains is what its formula gives
-#   make clean             remove target/, and with it what is proved
+#   make clean             remove target/ and what rt keeps in the crates' out/, and with it what is proved here
 #   make help              this list
 
 all: library replay
@@ -28,12 +28,12 @@ SEED ?= 1
 CALLS ?= 5000000
 REQUESTS ?= 20000000
 
-ARCHIVE := target/staticlib/libmapcache.a
-REPLAY := target/bin/replay
+ARCHIVE := crates/mapcache/out/libmapcache.a
+REPLAY := crates/replay/out/replay
 HOST := target/host
 INCLUDE := $(HOST)/include
 HEADER := $(INCLUDE)/mapcache.h
-SOURCES := crates.txt $(shell find crates -name '*.rt' -o -name '*.antt')
+SOURCES := crates.txt $(shell find crates -path 'crates/*/out' -prune -o \( -name '*.rt' -o -name '*.antt' \) -print)
 
 # The version stands in one place in the proved code, and everything else has it from there.
 VERSION_SOURCES := tools/version crates/s3_fifo/src/lib.rt
@@ -68,7 +68,7 @@ include mk/differential.mk
 include mk/programs.mk
 include mk/gate.mk
 
-# rt takes one command at a time. The gate says SIDE_BY_SIDE where it has nothing left to ask of it.
+# What asks rt for the same crates would wait for one another. The gate says SIDE_BY_SIDE where one target alone still asks it for anything.
 ifeq ($(SIDE_BY_SIDE),)
 .NOTPARALLEL:
 endif
@@ -82,20 +82,21 @@ help:
 	@sed -n 's/^#   \(make.*\)/  \1/p' Makefile mk/*.mk
 
 clean:
-	rm -rf target
+	rm -rf target crates/*/out
 
-# rt proves each crate once and keeps the result, so these cost little where nothing has changed.
+# rt keeps what it proves in the crates' out/, so these cost little where nothing has changed. rt ci clears that for its own run and then
+# puts it back; what it leaves besides are the programs, and no archive.
 $(ARCHIVE): $(SOURCES)
 	@rm -f $@
-	@tools/progress mapcache rt staticlib mapcache
+	@tools/progress mapcache rt lib
 	@test -s $@ || { echo '$@: rt has left no archive' >&2; exit 1; }
 
-# Where rt finds nothing changed it leaves the program as it is, and only its time is set. It links it from its object, so a
-# program that is older than that is one of before.
+# rt has no command that builds a program and does not run it: this run only says the version. Where rt finds nothing changed it leaves
+# the program as it is, and only its time is set. It links it from its object, so a program that is older than that is one of before.
 $(REPLAY): $(SOURCES)
-	@tools/progress replay rt check replay
+	@tools/progress replay rt run -- --version
 	@test -s $@ && test -x $@ || { echo '$@: rt has left no program (make clean, and again)' >&2; exit 1; }
-	@! test $@ -ot target/obj/replay.o || { echo '$@: rt has left an older program there' >&2; exit 1; }
+	@! test $@ -ot $@.o || { echo '$@: rt has left an older program there' >&2; exit 1; }
 	@touch $@
 
 library: $(ARCHIVE)

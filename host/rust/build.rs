@@ -1,4 +1,4 @@
-//! Links the proved archive, libmapcache.a. `rt staticlib mapcache` writes it to target/staticlib at the top of the
+//! Links the proved archive, libmapcache.a. `make library` (`rt lib`) leaves it in crates/mapcache/out at the top of the
 //! repository; MAPCACHE_LIB_DIR names another folder, as one that `make install` filled. The version comes from the one
 //! place that has it, through tools/version.
 
@@ -17,7 +17,7 @@ fn main() {
 
 fn archive_folder() -> PathBuf {
     println!("cargo:rerun-if-env-changed=MAPCACHE_LIB_DIR");
-    let folder = env::var_os("MAPCACHE_LIB_DIR").map_or(Path::new(TOP).join("target/staticlib"), PathBuf::from);
+    let folder = env::var_os("MAPCACHE_LIB_DIR").map_or(Path::new(TOP).join("crates/mapcache/out"), PathBuf::from);
     let archive = folder.join("libmapcache.a");
     if !archive.is_file() {
         let archive = archive.display();

@@ -10,7 +10,7 @@ gate runs less, and the table of docs/RELIABILITY.md has a column for each. What
  - each row of that table with its column for this machine; a row that nothing here knows, and a figure without a row, fail;
  - sentences with figures, in several documents. Each must stand there with the figures that were printed, however its lines
    are broken;
- - the assumptions that the check of each crate counts, as rt has left them in target/log.
+ - the assumptions that the check of each program and of each library counts (tools/last-lines).
 """
 import os
 import re
@@ -167,7 +167,7 @@ def sentences_of_files():
     yield "man/mapcache-replay.1.in", f"More than {requests} bytes of requests are"
 
     needs = crates()
-    count = 1 + sum(name in needs for name in needs["replay"])
+    count = 1 + sum(name in needs for name in needs["replay"][1])
     yield "README.md", f"it proves {count} crates first"
     yield "README.md", f"`[3/{count}] rules"
     yield "README.md", " ".join("\n".join(read("examples/first.answers").splitlines()[:5]).split())
@@ -233,23 +233,29 @@ def records_of_ghosts():
     return f"{', '.join(first)} and {last}", full, there, none
 
 
-def wrong_axioms():
-    """What the check of each crate counts after `axioms=`: none for a library, and for a program what docs/DECISIONS.md says."""
-    said = " ".join(read("docs/DECISIONS.md").split())
-    for crate in crates():
-        proved = re.findall(r"^logic=proved functions=\d+(?: axioms=(\d+))? ", read(f"target/log/{crate}.say"), re.M)
-        if len(proved) != 1:
-            yield f"target/log/{crate}.say does not say once that {crate} is proved"
-        elif os.path.exists(os.path.join(TOP, "crates", crate, "src/main.rt")):
-            written = re.search(rf"`{crate}`(?: and `\w+`)?: (\d+)[ ,.]", said)
-            if written is None or written[1] != proved[0]:
-                yield f"docs/DECISIONS.md: `{crate}` counts {written[1] if written else 'no'} assumptions, and its check {proved[0] or 'none'}"
-        elif proved[0]:
-            yield f"README.md says that libraries rest on no axiom, and the check of {crate} counts {proved[0]}"
+def wrong_axioms(said):
+    """What the check of each crate counts after `axioms=`: none for a library, and for a program what docs/DECISIONS.md says. Of a library
+    that rt ci kept there is no line: the programs' and the archive's are of all that they reach."""
+    decisions = " ".join(read("docs/DECISIONS.md").split())
+    lines = dict(re.findall(r"^(\w+): (logic=proved .*)$", Printed(said, "last-lines").text, re.M))
+    for crate, (kind, _) in crates().items():
+        counted = re.search(r" axioms=(\d+)( |$)", lines.get(crate, ""))
+        if os.path.exists(os.path.join(TOP, "crates", crate, "src/main.rt")):
+            written = re.search(rf"`{crate}`(?: and `\w+`)?: (\d+)[ ,.]", decisions)
+            if crate not in lines:
+                yield f"{said}/last-lines does not say that {crate} is proved"
+            elif written is None or counted is None or written[1] != counted[1]:
+                yield f"docs/DECISIONS.md: `{crate}` counts {written[1] if written else 'no'} assumptions, and its check {counted[1] if counted else 'none'}"
+        elif crate not in lines and kind == "staticlib":
+            yield f"{said}/last-lines does not say that {crate} is proved"
+        elif counted:
+            yield f"README.md says that libraries rest on no axiom, and the check of {crate} counts {counted[1]}"
 
 
 def crates():
-    return {line.split(":")[0]: line.split(":")[1].split() for line in read("crates.txt").splitlines() if ":" in line.split("#")[0]}
+    """The crates of crates.txt: what stands behind the name, `staticlib` or nothing, and those that it names."""
+    rows = (line.split("#")[0].partition(":") for line in read("crates.txt").splitlines())
+    return {head.split()[0]: (" ".join(head.split()[1:]), rest.split()) for head, colon, rest in rows if colon}
 
 
 def ratios_of_speed():
@@ -293,7 +299,7 @@ def compare(said=None, machine=None, *without):
     original = without != ("without-original",)
     sentences += sentences_of_fuzz(said)
     sentences += sentences_of_runs(said) if original else []
-    wrong = [*wrong_rows(said, machine, original), *wrong_sentences(sentences), *wrong_axioms()]
+    wrong = [*wrong_rows(said, machine, original), *wrong_sentences(sentences), *wrong_axioms(said)]
     count = len(sentences) + len(dict(rows(said, machine, original)))
     return wrong, f"{count} of the documents are those that were printed{'' if original else ' (without those of the original)'}"
 

@@ -33,7 +33,7 @@ def findings(root):
         for names, path in CITED.findall(text):
             if not (root / path).exists():
                 continue
-            words = set(re.split(r"[\s(){}⌜⌝;:,.]+", (root / path).read_text(encoding="utf-8")))
+            words = set(re.split(r"[\s(){};:,.]+", (root / path).read_text(encoding="utf-8")))
             for name in re.findall(r"`([^`]+)`", names):
                 if name.split("::")[-1] not in words:
                     yield f"{document}: `{name}` is not in {path}"

@@ -15,11 +15,12 @@ believe = importlib.util.module_from_spec(importlib.util.spec_from_loader("belie
 loader.exec_module(believe)
 
 TOP = """-- What is promised.
-use Rattle·low.specs.Parts.{half as part, Pair, both}
+use Rattle.std.specs.Prelude.{ℕ, ◌≡◌}
+use Rattle.low.specs.Parts.{half as part, Pair, both, start}
 
 -- the promise
 pub record Promise (n : ℕ) : Type 0 where
-  pub holds : local n ≡ part n
+  pub holds : local n ≡ part (n + start.first)
 
 local : ℕ → ℕ
 local n = n
@@ -32,6 +33,13 @@ PARTS = """-- Parts.
 
 abbrev pub half : ℕ → ℕ
 half n = n / 2
+
+pub start : Ends
+start = record { first = 0; last = 0 }
+
+pub record Ends : Type 0 where
+  pub first : ℕ
+  pub last : ℕ
 
 pub data Pair : Type 0 where
   both : ℕ → ℕ → Pair
@@ -54,7 +62,7 @@ class Believe(unittest.TestCase):
         folder = tempfile.TemporaryDirectory()
         self.addCleanup(folder.cleanup)
         self.root = Path(folder.name)
-        self.write("crates.txt", "low:\ntop: low\nmore:\n")
+        self.write("crates.txt", "# the crates\nlow:\ntop staticlib: low\nmore:\n")
         self.write("README.md", README)
         self.write("crates/top/specs/Promises.antt", TOP)
         self.write("crates/top/specs/Lib.antt", "pub mod Promises\n")
@@ -78,13 +86,13 @@ class Believe(unittest.TestCase):
 
     def test_what_is_reached(self):
         text = self.run_tool("--read")[1]
-        for needed in ("record Promise", "local n = n", "half n = n / 2"):
+        for needed in ("record Promise", "local n = n", "half n = n / 2", "start = record", "record Ends"):
             self.assertIn(needed, text)
-        for other in ("apart", "both"):
+        for other in ("apart", "both", "Prelude"):
             self.assertNotIn(other, text)
 
     def test_good(self):
-        self.assertEqual(self.run_tool("--check"), (0, "believe: 9 lines in 2 files, and README.md names each\n"))
+        self.assertEqual(self.run_tool("--check"), (0, "believe: 14 lines in 2 files, and README.md names each\n"))
 
     def test_a_file_left_out(self):
         self.write("README.md", README.replace("; crates/low/specs: Parts", ""))
@@ -97,8 +105,8 @@ class Believe(unittest.TestCase):
         self.assertEqual((status, text), (1, "README.md names crates/more/specs/Elsewhere.antt, and no promise rests on it\n"))
 
     def test_too_long(self):
-        status, text = self.run_tool("--check", most=9)
-        self.assertEqual((status, text), (1, "9 lines have to be believed, which is not under 9\n"))
+        status, text = self.run_tool("--check", most=14)
+        self.assertEqual((status, text), (1, "14 lines have to be believed, which is not under 14\n"))
 
     def test_a_name_that_is_gone(self):
         self.write("crates/low/specs/Parts.antt", PARTS.replace("half", "third"))

@@ -9,8 +9,8 @@ import unittest
 HERE = os.path.dirname(os.path.abspath(__file__))
 TOOL = os.path.join(HERE, "../../tools/tidy")
 
-LOW_CODE = """ghost use mathlib.Core.Path.{_≡_};
-ghost use Rattle·low·specs.specs.Twos.{twice};
+LOW_CODE = """ghost use Rattle.std.specs.Prelude.{◌≡◌};
+ghost use Rattle.low.specs.Twos.{twice};
 
 pub struct Pair {
     pub a: u8,
@@ -23,14 +23,14 @@ fn half(x: u8) -> u8 {
 }
 
 pub fn double(p: Pair) -> u8
-    ensures { λ r. ⌜ r ≡ twice (p .a) ⌝ }
+    ensures { result ≡ twice p.a }
 {
     half(p.a) + half(p.a)
 }
 """
 
 LOW_SPECS = """-- Twice a number.
-use Prim.Native.Nat.{ℕ, _+_}
+use Prim.Native.Nat.{ℕ, ◌+◌}
 
 unfoldable pub twice : ℕ → ℕ
 twice n = n + n
@@ -41,10 +41,10 @@ pub data Order : Type 0 where
 """
 
 LOW_LAWS = """-- Laws of doubling.
-use mathlib.Core.Path.{_≡_, refl}
-use Prim.Native.Nat.{ℕ, zero, suc, _+_}
-use Rattle·low·specs.specs.Twos as twos
-use Rattle·low·specs.specs.Twos.{less}
+use mathlib.Core.Path.{◌≡◌, refl}
+use Prim.Native.Nat.{ℕ, zero, suc, ◌+◌}
+use Rattle.low.specs.Twos as twos
+use Rattle.low.specs.Twos.{less}
 
 pub twice-is : (n : ℕ) → twos.twice n ≡ n + n
 unfolding twos.twice
@@ -60,28 +60,41 @@ module _ (n : ℕ)
       pick (suc k) = less
 """
 
-LOW_PROOF = """use Rattle·low·proofs.proofs.TwosLaws.{twice-is}
-use Rattle·low·proofs.proofs.double.Statement.{statement}
-use Rattle·low·proofs.proofs.double.Tie as tie
+LOW_ANSWERS = """-- `low::double` meets its contract.
+use borrow.Author.Rules.{rules}
+use Rattle.low.proofs.TwosLaws.{twice-is}
+use Rattle.low.proofs.double.Goals as goal
 
-pub double-spec : {M : Type 1} → statement M
-double-spec = tie.close (tie.spec (λ c. search twice-is))
+ruleset laws = (rules, twice-is)
+
+pub returns : goal.returns
+returns c = search laws
+"""
+
+LOW_INVARIANTS = """use Rattle.low.proofs.double.Given as goal
+
+abbrev pub invariant-loop : goal.invariant-loop
+invariant-loop l = l.x
+
+abbrev pub decreases-loop : goal.decreases-loop
+decreases-loop l = l.x
 """
 
 TOP_CODE = """use low::Pair;
 
-#[no_mangle]
+#[unsafe(no_mangle)]
 pub extern "C" fn four(x: u8) -> u8 {
     low::double(Pair { a: x })
 }
 """
 
 CLEAN = {
-    "crates.txt": "low:\ntop: low\n",
+    "crates.txt": "low:\ntop staticlib: low\n",
     "crates/low/src/lib.rt": LOW_CODE,
     "crates/low/specs/Twos.antt": LOW_SPECS,
     "crates/low/proofs/TwosLaws.antt": LOW_LAWS,
-    "crates/low/proofs/double/Proof.antt": LOW_PROOF,
+    "crates/low/proofs/double/Answers.antt": LOW_ANSWERS,
+    "crates/low/proofs/double/Invariants.antt": LOW_INVARIANTS,
     "crates/top/src/lib.rt": TOP_CODE,
     "tools/theorems.txt": "# theorems\nlow TwosLaws lower -- readers are pointed to it\n",
     "tools/names.txt": "",
@@ -160,24 +173,69 @@ class Tidy(unittest.TestCase):
     def test_unused_imports(self):
         law, code = "crates/low/proofs/TwosLaws.antt", "crates/low/src/lib.rt"
         self.expect(
-            {law: ("ℕ, zero, suc, _+_}", "ℕ, zero, suc, _+_, _*_}"), code: ("{_≡_}", "{_≡_, refl}")},
-            f"{law}:3: `_*_` is imported and not used",
+            {law: ("ℕ, zero, suc, ◌+◌}", "ℕ, zero, suc, ◌+◌, ◌*◌}"), code: ("{◌≡◌}", "{◌≡◌, ◌/◌, refl}")},
+            f"{law}:3: `◌*◌` is imported and not used",
             f"{code}:1: `refl` is imported and not used",
+            f"{code}:1: `◌/◌` is imported and not used",
         )
 
     def test_unused_module(self):
-        path = "crates/low/proofs/double/Proof.antt"
-        line = "use Rattle·low·proofs.proofs.double.Tie as tie\n"
-        self.expect({path: (line, line + "use mathlib.Core.List as lists\n")}, f"{path}:4: `lists` is imported and not used")
+        path = "crates/low/proofs/double/Answers.antt"
+        line = "use Rattle.low.proofs.double.Goals as goal\n"
+        self.expect({path: (line, line + "use mathlib.Core.List as lists\n")}, f"{path}:5: `lists` is imported and not used")
+
+    def test_what_rt_does_not_ask_for(self):
+        """An answer is needed because it is a goal's, and what it does not name is not; a theorem by hand has its own end."""
+        answers, invariants = "crates/low/proofs/double/Answers.antt", "crates/low/proofs/double/Invariants.antt"
+        self.expect(
+            {answers: "\npub more : goal.returns\nmore c = returns c\n", invariants: ("decreases-loop : goal.d", "decreases-lop : goal.d")},
+            f"{answers}:11: `more` (definition) is referenced nowhere",
+            f"{invariants}:6: `decreases-lop` (definition) is referenced nowhere",
+        )
+        proof = "pub half_spec : statement\nhalf_spec = walk\n\nidle_specs : statement\nidle_specs = walk\n"
+        path = "crates/low/proofs/half/Proof.antt"
+        self.expect({path: proof}, f"{path}:4: `idle_specs` (definition) is referenced nowhere")
+
+    def test_a_lemma_that_only_an_attribute_names(self):
+        laws, code = "crates/low/proofs/TwosLaws.antt", "crates/low/src/lib.rt"
+        law = "\npub idle : (n : ℕ) → n ≡ n\nidle n = refl\n"
+        given = "#[tactic(auto, unfolding(crate::specs::Twos::twice), using(low::proofs::TwosLaws::idle))]\nfn half("
+        self.assertEqual(self.report({laws: law, code: ("fn half(", given)})[0], 0)
+
+    def test_contracts_alone_speak_antt(self):
+        """A name of specs/ that stands in a clause is needed, also where clauses have names, and one in the code is not."""
+        path, specs = "crates/low/src/lib.rt", "crates/low/specs/Twos.antt"
+        clauses = "    requires low { p.a ≤ bound }\n    requires { matches (record { at = bound }) }\n    ensures {"
+        bound = "\npub bound : ℕ\nbound = 3\n\npub matches : ℕ → ℕ\nmatches n = n\n"
+        imports = ("{twice}", "{twice, bound, matches}")
+        files = {path: LOW_CODE.replace("    ensures {", clauses).replace(*imports).replace("{◌≡◌}", "{◌≡◌, ◌≤◌}"), specs: bound}
+        with tempfile.TemporaryDirectory() as root:
+            plant(root, {**CLEAN, path: files[path], specs: LOW_SPECS + bound})
+            self.assertEqual(run(root), (0, ["tidy: ok"]))
+        code = LOW_CODE.replace("half(p.a) +", "// p ≤ bound\n    let bound = half(p.a);\n    bound +").replace("{twice}", "{twice, bound}")
+        with tempfile.TemporaryDirectory() as root:
+            plant(root, {**CLEAN, path: code, specs: LOW_SPECS + "\npub bound : ℕ\nbound = 3\n"})
+            self.assertEqual(run(root), (1, [
+                f"{specs}:11: `bound` (definition) is referenced nowhere", f"{path}:2: `bound` is imported and not used", "tidy: 2 findings"]))
+
+    def test_a_trait_is_used_by_its_methods(self):
+        """What a trait of std brings are its methods; `self` in braces is the module itself."""
+        path = "crates/low/src/lib.rt"
+        lines = "use std::io::{self, Read, Write};\n\npub fn double(p: Pair"
+        self.expect({path: ("pub fn double(p: Pair", lines)}, *[f"{path}:14: `{name}` is imported and not used" for name in ("Read", "Write", "self")])
+        used = LOW_CODE.replace("pub fn double(p: Pair", lines).replace("half(p.a) +", "io::one(p.a.read_exact()) +")
+        with tempfile.TemporaryDirectory() as root:
+            plant(root, {**CLEAN, path: used.replace("half(x: u8)", "half(x: u8, io: u8)").replace("half(p.a)", "half(p.a, 0)")})
+            self.assertEqual(run(root), (1, [f"{path}:14: `Write` is imported and not used", "tidy: 1 finding"]))
 
     def test_passed_on(self):
         laws, more = "crates/low/proofs/TwosLaws.antt", "crates/low/specs/More.antt"
-        changes = {more: "pub use Rattle·low·specs.specs.Twos.{twice, less}\n", laws: ("specs.Twos.{less}", "specs.More.{less}")}
+        changes = {more: "pub use Rattle.low.specs.Twos.{twice, less}\n", laws: ("specs.Twos.{less}", "specs.More.{less}")}
         self.expect(changes, f"{more}:1: `twice` is passed on, and nothing takes it from here")
 
     def test_fix_imports(self):
         path = "crates/low/proofs/TwosLaws.antt"
-        changed = LOW_LAWS.replace("{_≡_, refl}", "{_∙_, _≡_, refl, sym as turn}\nuse mathlib.Core.List.{List}")
+        changed = LOW_LAWS.replace("{◌≡◌, refl}", "{◌∙◌, ◌≡◌, refl, sym as turn}\nuse mathlib.Core.List.{List}")
         with tempfile.TemporaryDirectory() as root:
             plant(root, {**CLEAN, path: changed})
             self.assertEqual(run(root, "--fix-imports", "low"), (0, [f"{path}: 3 unused imports removed"]))
@@ -206,8 +264,8 @@ class Tidy(unittest.TestCase):
 
     def test_a_crate_above_the_door_names_one_behind_it(self):
         """`top` stands above `store` once crates.txt says so, and then may not name `pool`."""
-        listed = {"crates.txt": ("top: low\n", "store:\ntop: low store\n")}
-        added = "\n// As pool::fill does.\nfn five() -> u8 {\n    5\n}\n\n#[no_mangle]\npub extern \"C\" fn six() -> u8 {\n    five() + 1\n}\n"
+        listed = {"crates.txt": ("top staticlib: low\n", "store:\ntop staticlib: low store\n")}
+        added = "\n// As pool::fill does.\nfn five() -> u8 {\n    5\n}\n\n#[unsafe(no_mangle)]\npub extern \"C\" fn six() -> u8 {\n    five() + 1\n}\n"
         self.assertEqual(self.report({"crates/top/src/lib.rt": added})[0], 0)
         self.expect({**listed, "crates/top/src/lib.rt": added}, "crates/top/src/lib.rt:8: `pool::` is named above `store`")
 
@@ -241,7 +299,7 @@ class Tidy(unittest.TestCase):
     def test_what_is_no_text_is_not_read(self):
         with tempfile.TemporaryDirectory() as root:
             plant(root, CLEAN)
-            for place in ("target", ".git"):
+            for place in ("target", ".git", "crates/low/out", "docs/unfinished"):
                 plant(root, {f"{place}/notes": f"RULES {1}\n"})
             with open(os.path.join(root, "data.bin"), "wb") as file:
                 file.write(b"\xff\xfe RULES" + b" 1\n")

@@ -12,7 +12,6 @@ ghost use Rattle.ghost_list.specs.Ghosts.{GhostsAlone, given_of};
 ghost use Rattle.ghosts.specs.Operations.{wants_of, wanted_in, gave_back, was_there, answer_of, Opened, Taken, Staged};
 
 use ghost_list::Given;
-use libc::{STDIN_FILENO, STDOUT_FILENO};
 use rules::GuestBlock;
 use sizing::Limits;
 use store::Shape;
@@ -133,115 +132,115 @@ fn read(bytes: &[u8]) -> Wanted
     wanted_by(cells::get8(bytes, 0), cells::get64(bytes, 1))
 }
 
-fn line(label: &[u8]) {
-    io::write_all(STDOUT_FILENO, label);
-    io::write_all(STDOUT_FILENO, b"\n");
+// A line that cannot be written is left out, and the run goes on.
+fn line(rt: &impl Print, label: &[u8]) {
+    let _ = rt.write_all(label);
+    let _ = rt.write_all(b"\n");
 }
 
-fn numbered(label: &[u8], n: u64) {
-    io::write_all(STDOUT_FILENO, label);
-    io::print_decimal(STDOUT_FILENO, n);
-    io::write_all(STDOUT_FILENO, b"\n");
+fn numbered(rt: &impl Print, label: &[u8], n: u64) {
+    let _ = rt.write_all(label);
+    let _ = println!(rt; "{n}");
 }
 
-fn tell(answer: Answer) {
+fn tell(rt: &impl Print, answer: Answer) {
     match answer {
-        Answer::Dropped(k) => numbered(b"dropped ", k.0),
-        Answer::Nothing => line(b"nothing"),
-        Answer::There => line(b"was there"),
-        Answer::NotThere => line(b"was not there"),
-        Answer::Cleared => line(b"cleared"),
+        Answer::Dropped(k) => numbered(rt, b"dropped ", k.0),
+        Answer::Nothing => line(rt, b"nothing"),
+        Answer::There => line(rt, b"was there"),
+        Answer::NotThere => line(rt, b"was not there"),
+        Answer::Cleared => line(rt, b"cleared"),
     }
 }
 
 // Says that a record is bad; the run is over.
-fn refuse() -> Stage
+fn refuse(rt: &impl Print) -> Stage
     ensures { result ≡ Stage.Over }
 {
-    line(b"bad record");
+    line(rt, b"bad record");
     Stage::Over
 }
 
 // A new list, whatever stood in the store before.
-fn open(s: &mut [u8], limit: u64) -> Stage
+fn open(rt: &impl Print, s: &mut [u8], limit: u64) -> Stage
     requires { store_bytes ≤ length s.old }
     ensures { Staged result s.new }
 {
     if rules::MOST < limit {
-        return refuse();
+        return refuse(rt);
     }
     let z = begin(s, limit);
-    numbered(b"new ", limit);
+    numbered(rt, b"new ", limit);
     Stage::Open(z)
 }
 
 // The first record: only a new list will do.
-fn first(s: &mut [u8], wanted: Wanted) -> Stage
+fn first(rt: &impl Print, s: &mut [u8], wanted: Wanted) -> Stage
     requires { store_bytes ≤ length s.old }
     ensures { Staged result s.new }
 {
     match wanted {
-        Wanted::New(limit) => open(s, limit),
-        Wanted::Of(_) => refuse(),
-        Wanted::Bad => refuse(),
+        Wanted::New(limit) => open(rt, s, limit),
+        Wanted::Of(_) => refuse(rt),
+        Wanted::Bad => refuse(rt),
     }
 }
 
 // A record on a list.
-fn next(s: &mut [u8], z: Shape, wanted: Wanted) -> Stage
+fn next(rt: &impl Print, s: &mut [u8], z: Shape, wanted: Wanted) -> Stage
     requires { (store_bytes ≤ length s.old) × GhostsAlone z s.old }
     ensures { Staged result s.new }
 {
     match wanted {
-        Wanted::New(limit) => open(s, limit),
+        Wanted::New(limit) => open(rt, s, limit),
         Wanted::Of(o) => {
-            tell(take(s, z, o));
+            tell(rt, take(s, z, o));
             Stage::Open(z)
         }
-        Wanted::Bad => refuse(),
+        Wanted::Bad => refuse(rt),
     }
 }
 
 // One record, wherever the run is.
-fn turn(s: &mut [u8], stage: Stage, record: &[u8]) -> Stage
+fn turn(rt: &impl Print, s: &mut [u8], stage: Stage, record: &[u8]) -> Stage
     requires { (store_bytes ≤ length s.old) × Staged stage s.old }
     ensures { Staged result s.new }
 {
     match stage {
-        Stage::Before => first(s, read(record)),
-        Stage::Open(z) => next(s, z, read(record)),
+        Stage::Before => first(rt, s, read(record)),
+        Stage::Open(z) => next(rt, s, z, read(record)),
         Stage::Over => Stage::Over,
     }
 }
 
 // All whole records.
-fn turns(s: &mut [u8], input: &[u8]) -> Stage
+fn turns(rt: &impl Print, s: &mut [u8], input: &[u8]) -> Stage
     requires { store_bytes ≤ length s.old }
     ensures { Staged result s.new }
 {
     let mut stage = Stage::Before;
     let mut at = 0;
     while RECORD_BYTES <= input.len() - at {
-        stage = turn(s, stage, &input[at..at + RECORD_BYTES]);
+        stage = turn(rt, s, stage, &input[at..at + RECORD_BYTES]);
         at += RECORD_BYTES;
     }
     stage
 }
 
 // All records, and what is left after the whole ones.
-fn run(s: &mut [u8], input: &[u8])
+fn run(rt: &impl Print, s: &mut [u8], input: &[u8])
     requires { store_bytes ≤ length s.old }
 {
-    let stage = turns(s, input);
+    let stage = turns(rt, s, input);
     let rest = input.len() % RECORD_BYTES;
     if 0 < rest {
-        turn(s, stage, &input[input.len() - rest..]);
+        turn(rt, s, stage, &input[input.len() - rest..]);
     }
 }
 
-fn main() {
-    let mut store = io::large_buffer();
-    let mut input = io::large_buffer();
-    let n = io::read_full(STDIN_FILENO, &mut input);
-    run(&mut store, &input[..n]);
+fn main(rt: HostRuntime) {
+    let mut store = intake::large_buffer();
+    let mut input = intake::large_buffer();
+    let n = intake::read_full(&mut rt.stdin(), &mut input);
+    run(&rt, &mut store, &input[..n]);
 }

@@ -13,13 +13,20 @@ ghost use Rattle.replay.specs.Output.{most_input, reply_room, written_for};
 ghost use Rattle.replay.specs.Input.{Within, AtMost};
 ghost use Rattle.rules.specs.Refusals.{number_of, detail_of};
 
-use libc::{STDERR_FILENO, STDIN_FILENO, STDOUT_FILENO};
 use rules::Turned;
 use s3_fifo::{Creation, Ran, S3FifoCache};
 use sizing::{Read, Settings};
+use std::env::{Env, FillError};
+use std::io;
 
 // The settings, the most request bytes of a call, and one byte more, so that more than that shows.
 const MOST_INPUT_BYTES: usize = 32795;
+
+// How many bytes there are for replies.
+const REPLY_ROOM: usize = 65536;
+
+// A longer argument is none that the program knows.
+const MOST_ARGUMENT_BYTES: usize = 4096;
 
 // The mark of a refusal.
 const NO: [u8; 2] = *b"NO";
@@ -50,6 +57,18 @@ fn store_buffer() -> [u8; S3FifoCache::STORE_BYTES]
     ensures { store_bytes ≡ length result }
 {
     [0; S3FifoCache::STORE_BYTES]
+}
+
+fn reply_buffer() -> [u8; REPLY_ROOM]
+    ensures { reply_room ≡ length result }
+{
+    [0; REPLY_ROOM]
+}
+
+fn argument_buffer() -> [u8; MOST_ARGUMENT_BYTES]
+    ensures { 4096 ≡ length result }
+{
+    [0; MOST_ARGUMENT_BYTES]
 }
 
 // Writes the record of a refusal with this number and detail.
@@ -129,35 +148,31 @@ fn reply_within(input: &[u8], n: usize, replies: &mut [u8]) -> usize
 }
 
 // One read, into all of part.
-fn read_once(fd: i32, part: &mut [u8]) -> Piece
+fn read_once<R: io::Read>(from: &mut R, part: &mut [u8]) -> Piece
     ensures { Within result (length part.old) }
 {
-    let got = libc::read(fd, part);
-    if got < 0 {
-        return Piece::Failed;
+    match from.read(part) {
+        Ok(0) => Piece::End,
+        Ok(n) => Piece::Bytes(n),
+        Err(_) => Piece::Failed,
     }
-    let n = io::count(got, part);
-    if n == 0 {
-        return Piece::End;
-    }
-    Piece::Bytes(n)
 }
 
 // One read, into buf from a place on.
-fn read_at(fd: i32, buf: &mut [u8], at: usize) -> Piece
+fn read_at<R: io::Read>(from: &mut R, buf: &mut [u8], at: usize) -> Piece
     requires { at ≤ length buf.old }
     ensures { Within result (length buf.old - at) }
 {
-    read_once(fd, &mut buf[at..])
+    read_once(from, &mut buf[at..])
 }
 
 // Reads until buf is full or the input ends, and tells a read that failed from the end.
-fn read_all(fd: i32, buf: &mut [u8]) -> Input
+fn read_all<R: io::Read>(from: &mut R, buf: &mut [u8]) -> Input
     ensures { AtMost result (length buf.new) }
 {
     let mut done = 0;
     while done < buf.len() {
-        match read_at(fd, buf, done) {
+        match read_at(from, buf, done) {
             Piece::Bytes(n) => {
                 done += n;
             }
@@ -173,54 +188,52 @@ fn read_all(fd: i32, buf: &mut [u8]) -> Input
 }
 
 // Writes the first n bytes.
-fn put(bytes: &[u8], n: usize)
+fn put<R: Print + Eprint>(rt: &R, bytes: &[u8], n: usize)
     requires { n ≤ length bytes.now }
 {
-    if !io::write_all(STDOUT_FILENO, &bytes[0..n]) {
-        io::write_all(STDERR_FILENO, b"replay: cannot write standard output\n");
+    if rt.write_all(&bytes[0..n]).is_err() {
+        let _ = eprintln!(rt; "replay: cannot write standard output");
     }
 }
 
 // Answers the first n bytes of the input on standard output.
-fn answer(input: &[u8], n: usize)
+fn answer<R: Print + Eprint>(rt: &R, input: &[u8], n: usize)
     requires { (most_input ≡ length input.now) × (n ≤ length input.now) }
 {
-    let mut replies = io::large_buffer();
+    let mut replies = reply_buffer();
     let count = reply_within(input, n, &mut replies);
-    put(&replies, count);
+    put(rt, &replies, count);
 }
 
-// All of standard input, answered on standard output.
-fn replay() {
+// All of the input, answered on standard output.
+fn replay<S: io::Read, R: Print + Eprint>(from: &mut S, rt: &R) {
     let mut input = input_buffer();
-    match read_all(STDIN_FILENO, &mut input) {
-        Input::Bytes(n) => answer(&input, n),
+    match read_all(from, &mut input) {
+        Input::Bytes(n) => answer(rt, &input, n),
         Input::Failed => {
-            io::write_all(STDERR_FILENO, b"replay: cannot read standard input\n");
+            let _ = eprintln!(rt; "replay: cannot read standard input");
         }
     }
 }
 
 // The one argument that the program knows asks for its version.
-fn tell(argument: &[u8]) {
+fn tell<R: Print + Eprint>(rt: &R, argument: &[u8]) {
     if cells::same(argument, b"--version") {
-        io::write_all(STDOUT_FILENO, b"mapcache-replay ");
-        io::write_all(STDOUT_FILENO, &S3FifoCache::VERSION);
-        io::write_all(STDOUT_FILENO, b"\n");
+        let _ = rt.write_all(b"mapcache-replay ");
+        let _ = rt.write_all(&S3FifoCache::VERSION);
+        let _ = rt.write_all(b"\n");
     } else {
-        io::write_all(
-            STDERR_FILENO,
-            b"replay: it reads standard input and writes standard output; its only argument is --version\n",
+        let _ = eprintln!(rt;
+            "replay: it reads standard input and writes standard output; its only argument is --version"
         );
     }
 }
 
-fn main() {
-    if os::arg_count() <= 1 {
-        replay();
-    } else {
-        let mut argument = io::buffer();
-        let n = os::arg(1, &mut argument);
-        tell(&argument[..n]);
+fn main(rt: HostRuntime) {
+    let mut argument = argument_buffer();
+    match rt.arg(1, &mut argument) {
+        Ok(n) => tell(&rt, &argument[..n]),
+        Err(FillError::TooLong) => tell(&rt, b""),
+        Err(FillError::NotPresent) => replay(&mut rt.stdin(), &rt),
     }
 }

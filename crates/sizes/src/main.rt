@@ -8,6 +8,7 @@ ghost use Rattle.sizing.specs.Answers.{sizing_of};
 ghost use Rattle.sizes.specs.Lines.{sized_line, line_for};
 
 use sizing::{Read, Settings, Sized};
+use std::io;
 
 // What a line says.
 #[derive(Clone, Copy)]
@@ -38,42 +39,42 @@ fn line_for(part: &[u8]) -> Line
     }
 }
 
-fn number(label: &[u8], n: u64) {
-    io::write_all(1, label);
-    io::print_decimal(1, n);
+fn number(rt: &impl Print, label: &[u8], n: u64) -> io::Result<()> {
+    rt.write_all(label)?;
+    print!(rt; "{n}")
 }
 
 // "capacity 4: small 0, ghosts 4", "capacity 0: refused 1" or "no settings"
-fn print_line(part: &[u8]) {
+fn print_line(rt: &impl Print, part: &[u8]) -> io::Result<()> {
     match line_for(part) {
         Line::Limits(capacity, small, ghosts) => {
-            number(b"capacity ", capacity);
-            number(b": small ", small);
-            number(b", ghosts ", ghosts);
+            number(rt, b"capacity ", capacity)?;
+            number(rt, b": small ", small)?;
+            number(rt, b", ghosts ", ghosts)?;
         }
         Line::Refused(capacity, why) => {
-            number(b"capacity ", capacity);
-            number(b": refused ", why);
+            number(rt, b"capacity ", capacity)?;
+            number(rt, b": refused ", why)?;
         }
         Line::NoSettings => {
-            io::write_all(1, b"no settings");
+            rt.write_all(b"no settings")?;
         }
     }
-    io::write_all(1, b"\n");
+    rt.write_all(b"\n")
 }
 
 // One line to each whole record, and one to what is left after them.
-fn lines(s: &[u8]) {
+fn lines(rt: &impl Print, s: &[u8]) -> io::Result<()> {
     let mut at = 0;
     while sizing::SETTINGS_BYTES <= s.len() - at {
-        print_line(&s[at..at + sizing::SETTINGS_BYTES]);
+        print_line(rt, &s[at..at + sizing::SETTINGS_BYTES])?;
         at += sizing::SETTINGS_BYTES;
     }
-    print_line(&s[at..]);
+    print_line(rt, &s[at..])
 }
 
-fn main() {
-    let mut buffer = io::large_buffer();
-    let n = io::read_full(0, &mut buffer);
-    lines(&buffer[..n]);
+fn main(rt: HostRuntime) -> io::Result<()> {
+    let mut buffer = intake::large_buffer();
+    let n = intake::read_full(&mut rt.stdin(), &mut buffer);
+    lines(&rt, &buffer[..n])
 }

@@ -34,7 +34,7 @@ use Rattle.s3_fifo.specs.Calls.{Said, gave, halted, turned, created_says, ran_sa
 use Rattle.s3_fifo.specs.Once.{Agrees}
 use Rattle.s3_fifo.specs.Chains.{Chain, start, accepted, refused, fed}
 use Rattle.s3_fifo.proofs.ChainLaws.{created-intact, called-intact}
-use Rattle.s3_fifo.proofs.StreamLaws.{cut_anywhere, as_one-call, finish-says}
+use Rattle.s3_fifo.proofs.StreamLaws.{cut_anywhere, as_one_call, finish-says}
 use Rattle.s3_fifo.proofs.WentLaws.{fed-intact, fed-fit}
 use Rattle.s3_fifo.proofs.OnceLaws as once
 use Rattle.mapcache.specs.Codes.{code_of, detail_in, CreatedAs, CalledAs, FedWith, FinishedWith}
@@ -265,5 +265,5 @@ exported =
       fed-fit = λ f g. fed-fit f.answer f.fed (fed-goes f g);
       finish-says = finish-says-all;
       cut_anywhere = λ ps qs a b e. cut_anywhere ps qs (streamed a) (streamed b) e;
-      as_one-call = λ ps x t c. as_one-call ps x (streamed t) (ran c);
+      as_one_call = λ ps x t c. as_one_call ps x (streamed t) (ran c);
     }

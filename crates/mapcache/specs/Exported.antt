@@ -89,7 +89,7 @@ pub record Exported : Type 0 where
   -- where a stream is cut makes no difference, and one that is fed and finished gives what one call on the whole gives
   pub cut_anywhere : {s c bs₁ bs₂ s₁ s₂ c₁ c₂ : List ℕ} (ps qs : List (List ℕ)) → Streamed s c ps bs₁ s₁ c₁ → Streamed s c qs bs₂ s₂ c₂ → glued ps ≡ glued qs
       → OneStream bs₁ bs₂ s₁ s₂ c₁ c₂
-  pub as_one-call : {s c bs s' c' p s₁ p₁ : List ℕ} {n d : ℕ} (ps : List (List ℕ)) → CarryAs c opening → Streamed s c ps bs s' c'
+  pub as_one_call : {s c bs s' c' p s₁ p₁ : List ℕ} {n d : ℕ} (ps : List (List ℕ)) → CarryAs c opening → Streamed s c ps bs s' c'
       → CalledAs s (glued ps) p (pos n) d s₁ p₁ → AsOneCall bs s' c' n s₁ p₁
   pub finish-says : {s c bs s' c' : List ℕ} {m : ℤ} {d : ℕ} (ps : List (List ℕ)) → CarryAs c opening → Streamed s c ps bs s' c' → FinishedWith c' m d
       → let a = verdict_says (ended (parse (glued ps)).end) in (m ≡ code_of a) × (d ≡ detail_in a)

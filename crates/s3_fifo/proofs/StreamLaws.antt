@@ -111,10 +111,10 @@ unfolding parse parse_from walk
 finish-says {c = c} [] x over r f = f.says ∙ ap (λ (d : Carried). verdict_says (finish_on d)) (carried-once c f.carry (carries opening) f.carry-is x)
 finish-says (p ∷ ps) x t r f = let y = set-off t in says_on (p ∷ ps) y.holds y.long x t r f
 
-pub as_one-call : {s c bs s' c' p s₁ p₁ : List ℕ} {n : ℕ} (ps : List (List ℕ)) → CarryAs c opening → Stream s c ps bs s' c'
+pub as_one_call : {s c bs s' c' p s₁ p₁ : List ℕ} {n : ℕ} (ps : List (List ℕ)) → CarryAs c opening → Stream s c ps bs s' c'
     → Called s (glued ps) p (Done n) s₁ p₁ → AsOneCall bs s' c' n s₁ p₁
 unfolding feed_on
-as_one-call {s} {c} {bs} {s'} {c'} {p} {s₁} {p₁} {n} ps x t d =
+as_one_call {s} {c} {bs} {s'} {c'} {p} {s₁} {p₁} {n} ps x t d =
     let y = whole-served d in
     let σ = y.state in
     let g : Given s c (feed_on σ opening (glued ps)) bs s' c' =

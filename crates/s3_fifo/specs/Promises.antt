@@ -43,7 +43,7 @@ pub record Promises : Type 0 where
   -- the whole gives, where that call is accepted; and a finish says how the whole ended
   pub cut_anywhere : {s c bs₁ bs₂ s₁ s₂ c₁ c₂ : List ℕ} (ps qs : List (List ℕ)) → Stream s c ps bs₁ s₁ c₁ → Stream s c qs bs₂ s₂ c₂ → glued ps ≡ glued qs
       → OneStream bs₁ bs₂ s₁ s₂ c₁ c₂
-  pub as_one-call : {s c bs s' c' p s₁ p₁ : List ℕ} {n : ℕ} (ps : List (List ℕ)) → CarryAs c opening → Stream s c ps bs s' c'
+  pub as_one_call : {s c bs s' c' p s₁ p₁ : List ℕ} {n : ℕ} (ps : List (List ℕ)) → CarryAs c opening → Stream s c ps bs s' c'
       → Called s (glued ps) p (Done n) s₁ p₁ → AsOneCall bs s' c' n s₁ p₁
   pub finish-says : {s c bs s' c' : List ℕ} (ps : List (List ℕ)) → CarryAs c opening → Stream s c ps bs s' c'
       → (r : Finish) → FinishAs c' r → finish_says r ≡ verdict_says (ended (parse (glued ps)).end)

@@ -20,5 +20,5 @@ within-part r xs at w = subst (λ (m : ℕ). Within r m) (part_length xs at) w
 pub within-bytes : {r : Piece} {n m : ℕ} → r ≡ Bytes n → Within r m → (0 < n) × (n ≤ m)
 within-bytes {r} {n} {m} e w = subst (λ (p : Piece). Within p m) e w
 
-pub at-most-bytes : {r : Input} {n m : ℕ} → r ≡ All n → AtMost r m → n ≤ m
+pub at-most-bytes : {r : Input} {n m : ℕ} → r ≡ AllBytes n → AtMost r m → n ≤ m
 at-most-bytes {r} {n} {m} e w = subst (λ (i : Input). AtMost i m) e w

@@ -4,7 +4,7 @@ use Rattle.std.specs.Prelude.{ℕ, ◌<◌, ◌≤◌}
 use Rattle.replay.specs.declared.Piece.{Piece}
 use Rattle.replay.specs.declared.Piece.TheVariants.{Bytes, End, Failed}
 use Rattle.replay.specs.declared.Input.{Input}
-use Rattle.replay.specs.declared.Input.TheVariants.{Bytes as All, Failed as Broken}
+use Rattle.replay.specs.declared.Input.TheVariants.{Bytes as AllBytes, Failed as Broken}
 
 -- at least one byte, and at most the room m
 abbrev pub Within : Piece → ℕ → Type 0
@@ -14,5 +14,5 @@ Within Failed m = Unit {0}
 
 -- no more bytes than the room m
 abbrev pub AtMost : Input → ℕ → Type 0
-AtMost (All n) m = n ≤ m
+AtMost (AllBytes n) m = n ≤ m
 AtMost Broken m = Unit {0}

@@ -42,7 +42,7 @@ def read(path):
 
 
 def found():
-    patterns = ["crates/*/stdin", "crates/*/stdout", "crates/*/args", "crates/*/data/*", "examples/*"]
+    patterns = ["crates/*/stdin", "crates/*/stdout", "crates/*/args", "crates/*/status", "crates/*/data/*", "examples/*"]
     return {path for pattern in patterns for path in glob.glob(pattern, root_dir=TOP)}
 
 

@@ -9,7 +9,7 @@ use Rattle.replay.specs.Input.{Within, AtMost}
 use Rattle.replay.specs.declared.Piece.{Piece}
 use Rattle.replay.specs.declared.Piece.TheVariants.{Bytes}
 use Rattle.replay.specs.declared.Input.{Input}
-use Rattle.replay.specs.declared.Input.TheVariants.{Bytes as All}
+use Rattle.replay.specs.declared.Input.TheVariants.{Bytes as AllBytes}
 
 part_length : (xs : List ℕ) (at : ℕ) → length (take (length xs - at) (drop at xs)) ≡ length xs - at
 part_length xs at = simp (length-take, length-drop) (omega arith)

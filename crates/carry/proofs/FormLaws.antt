@@ -67,7 +67,8 @@ module _ (o : ℕ) (t : Bool) (from : List ℕ) (at : ℕ) where
       let k : List ℕ = drop at from in
       let n : (length from - at) % 256 ≡ length k = omega (arith, length-drop at from) in
       let writes : s₃ ≡ put_le 1 (put_le 1 (put_le 8 (zeros carry_bytes) 0 o) 8 (length from - at)) 9 (bool_byte t) =
-      d ∙ ap (λ (l : List ℕ). put_le 1 l 9 (bool_byte t)) (b ∙ ap (λ (l : List ℕ). put_le 1 l 8 (length from - at)) (a ∙ ap (λ (l : List ℕ). put_le 8 l 0 o) e)) in
+      d ∙ ap (λ (l : List ℕ). put_le 1 l 9 (bool_byte t))
+      (b ∙ ap (λ (l : List ℕ). put_le 1 l 8 (length from - at)) (a ∙ ap (λ (l : List ℕ). put_le 8 l 0 o) e)) in
       let front : s₃ ≡ bytes_of 8 o ++ (length k ∷ bit t ∷ zeros kept_room) =
       writes ∙ numbers o (length from - at) (bool_byte t) ∙ ap₂ (λ (x y : ℕ). bytes_of 8 o ++ (x ∷ y ∷ zeros kept_room)) n (bit_byte t) in
       record { is = laid-behind o t k front (rw lent_is at f) g }

@@ -143,7 +143,8 @@ module _ {n buckets : ℕ} (key : ℕ → ℕ) {link head : ℕ → ℕ} {live :
     full zero y b h l e c = absurd (omega arith)
     full (suc m) y b h l e c = go (stands y l).place (full m)
       where
-        own : {q : ℕ} → (q ≡ top n buckets key link head live y) ⊎ (bucket_of (key q) buckets ≡ bucket_of (key y) buckets) → live q → bucket_of (key q) buckets ≡ b
+        own : {q : ℕ} → (q ≡ top n buckets key link head live y) ⊎ (bucket_of (key q) buckets ≡ bucket_of (key y) buckets) → live q
+            → bucket_of (key q) buckets ≡ b
         own {q} (inl i) lq =
             let g = head-good (bucket_of (key y) buckets) (bucket-below (key y) buckets some) (λ o. omega (arith, a.below q lq, i, o)) in
             rw (← i) at g.1 ∙ e

@@ -158,7 +158,8 @@ module _ {z : Shape} {s : List ℕ} (k : ℕ) where
 
 module _ {z : Shape} {s : List ℕ} {n m : ℕ} (e : n ≡ length (ghosts_in z s)) (q : m ≡ ghost_limit_in z s) where
   pub made_none : Keeps z s → n < m → RoomMade z s s Nothing
-  made_none k l = record { gave = rw (lt-ltb (length (ghosts_in z s)) (ghost_limit_in z s) (omega arith)) (record { becomes = same-ghosts z s k; back = refl }) }
+  made_none k l =
+      record { gave = rw (lt-ltb (length (ghosts_in z s)) (ghost_limit_in z s) (omega arith)) (record { becomes = same-ghosts z s k; back = refl }) }
 
   pub made_lost : m ≤ n → {s' : List ℕ} {r : Given·} → Lost z s s' r → RoomMade z s s' r
   made_lost l g = record { gave = rw (le-ltb (length (ghosts_in z s)) (ghost_limit_in z s) (omega arith)) g.gave }

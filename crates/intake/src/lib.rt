@@ -6,7 +6,7 @@ ghost use Rattle.std.specs.Prelude.{◌≡◌, ◌≤◌, length};
 use std::io::Read;
 
 // The bytes of a large buffer.
-pub const LARGE_BUFFER_BYTES: usize = 65536;
+const LARGE_BUFFER_BYTES: usize = 65536;
 
 // Zeros, of which the contract gives the number alone, so that no proof has to write them out.
 pub fn large_buffer() -> [u8; LARGE_BUFFER_BYTES]

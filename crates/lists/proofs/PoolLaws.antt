@@ -148,7 +148,8 @@ module _ (N K : ℕ) (nx pv q : List ℕ) (f : ℕ → List ℕ) (r : Pool N K n
   cat_nodup (suc k) le =
       nodup_append (f k) (cat f k) (ring_nodup N nx pv (N + k) (f k) (r.rings k (omega arith))) (cat_nodup k (omega arith))
       (every_map (f k)
-      (λ y (e : get_or q y 0 ≡ k). every_map (cat f k) (λ z (b : get_or q z 0 < k) d. omega (arith, ap (λ (i : ℕ). get_or q i 0) d)) (cat-all k (omega arith)).0)
+      (λ y (e : get_or q y 0 ≡ k). every_map (cat f k)
+      (λ z (b : get_or q z 0 < k) d. omega (arith, ap (λ (i : ℕ). get_or q i 0) d)) (cat-all k (omega arith)).0)
       (r.tags k (omega arith)))
 
   -- where they have N, each node is in one, and its tag says which

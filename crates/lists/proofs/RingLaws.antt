@@ -43,7 +43,8 @@ module _ (N : ℕ) (nx pv : List ℕ) (s : ℕ) (l : List ℕ) (r : Ring N nx pv
   ring-out_pv i o = let k : Out i l × (s ≢ i) = out_pv nx pv i s l s r.seg o in (k.1, k.0)
 
   -- the columns of another ring are left alone by a detach and by an attach
-  pub detach_other : (x : ℕ) → Out x (s ∷ l) → get_or nx (get_or pv x 0) 0 ≡ x → get_or pv (get_or nx x 0) 0 ≡ x → Ring N (detach_nx nx pv x) (detach_pv nx pv x) s l
+  pub detach_other : (x : ℕ) → Out x (s ∷ l) → get_or nx (get_or pv x 0) 0 ≡ x → get_or pv (get_or nx x 0) 0 ≡ x
+      → Ring N (detach_nx nx pv x) (detach_pv nx pv x) s l
   unfolding detach_nx detach_pv
   detach_other x o np pn =
       record {

@@ -70,7 +70,8 @@ has_cells : (z : Shape) (f : Field) {i : ℕ} → i < (span_of z f).rows → cod
 has_cells z f {i} h q = not-suc-le-zero (subst (λ (x : ℕ). i < (get_or (layout z) x (end z)).rows) q h)
 
 -- a number was read from a field's cell
-pub was_read : {z : Shape} {f : Field} {s : List ℕ} {i r : ℕ} → r ≡ le (span_of z f).width s (cell (span_of z f) i) → i < (span_of z f).rows → GetsField z s f i r
+pub was_read : {z : Shape} {f : Field} {s : List ℕ} {i r : ℕ} → r ≡ le (span_of z f).width s (cell (span_of z f) i) → i < (span_of z f).rows
+    → GetsField z s f i r
 unfolding cols
 was_read {z} {f} {s} {i} e h =
     record { value = e ∙ sym (rw (ne_eqb (code f) (code Rest) (has_cells z f h)) (get_or-column (span_of z f) s i h)) }

@@ -116,7 +116,8 @@ wrote-is bs out room e =
 -- ---- the call of a case
 
 answer_decides : (v : Verdict State) (a : Ran) (t : Told) (s s' p' out w : List ℕ) (room : ℕ) {r : Bool}
-    → Follows v (ran_says a) s s' (replicate room unwritten) p' → t ≡ told_of (ran_says a) → out ≡ p' → Decides (CaseAsWritten w t out) r → Decides (Accepts v w) r
+    → Follows v (ran_says a) s s' (replicate room unwritten) p' → t ≡ told_of (ran_says a) → out ≡ p' → Decides (CaseAsWritten w t out) r
+    → Decides (Accepts v w) r
 answer_decides (refused n d) a t s s' p' out w room f e o c =
     decides_map (λ g. absurd (turned-ran a n d f.0 (sym (ap (λ (x : Told). x.number) e) ∙ g.answer.number_is)))
     (λ g. absurd ((refused-not n d).never g.state w g.is)) c

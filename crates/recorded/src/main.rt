@@ -4,7 +4,7 @@
 // A step: what `Step` has, in 32 bytes; input; output. All steps of a file work on one store.
 #![tactic(auto)]
 
-ghost use Rattle.std.specs.Prelude.{◌≡◌, ◌≤◌, length, replicate};
+ghost use Rattle.std.specs.Prelude.{◌≡◌, ◌≤◌, length, replicate, IfSome};
 ghost use Rattle.cells.specs.Decides.{Decides};
 ghost use Rattle.s3_fifo.specs.Calls.{gave, turned, created_says, ran_says};
 ghost use Rattle.rules.specs.Refusals.{number_of, detail_of, store_bytes};
@@ -18,11 +18,15 @@ ghost use Rattle.recorded.specs.Steps.{Prepared, CreateStepped, CallStepped, Run
 use rules::Turned;
 use s3_fifo::{Creation, Ran, S3FifoCache};
 use sizing::{Read, Settings};
+use std::env::{Env, FillError};
 use std::rt::Files;
-use std::{env, fs, io};
+use std::{fs, io};
 
 // What stands in the reply buffer before a call, so that untouched bytes can be told.
 const UNTOUCHED: u8 = 165;
+
+// The bytes of the longest argument that is read.
+const MOST_ARGUMENT_BYTES: usize = 4096;
 
 // What replaying one case or step gave.
 #[derive(Clone, Copy)]
@@ -63,6 +67,13 @@ struct Tally {
     differ: u64,
     going: bool,
     whole: bool,
+}
+
+// Zeros, of which the contract gives the number alone, so that no proof has to write them out.
+fn argument_buffer() -> [u8; MOST_ARGUMENT_BYTES]
+    ensures { 4096 ≡ length result }
+{
+    [0; MOST_ARGUMENT_BYTES]
 }
 
 fn accepted(count: usize) -> Told
@@ -665,10 +676,21 @@ fn replay_fd<P: Print, R: io::Read>(rt: &P, from: &mut R, steps: bool) -> io::Re
     print_tally(rt, tally)
 }
 
-// Replays the file that an argument names.
-fn replay_arg<R: Files + Print>(rt: &R, path: &str, steps: bool) -> io::Result<()> {
-    print!(rt; "{path}")?;
-    match fs::open(rt, path) {
+// Replays the file of this name. One that is no text cannot be opened.
+fn replay_named<R: Files + Print>(rt: &R, path: &[u8], steps: bool) -> io::Result<()> {
+    match str::from_utf8(path) {
+        Ok(name) => replay_opened(rt, fs::open(rt, name), steps),
+        Err(_) => println!(rt; ": cannot be opened"),
+    }
+}
+
+// Replays a file, if it could be opened.
+fn replay_opened<P: Print, R: io::Read + Drop>(
+    rt: &P,
+    opened: io::Result<R>,
+    steps: bool,
+) -> io::Result<()> {
+    match opened {
         Ok(mut file) => {
             print!(rt; ": ")?;
             replay_fd(rt, &mut file, steps)
@@ -677,11 +699,37 @@ fn replay_arg<R: Files + Print>(rt: &R, path: &str, steps: bool) -> io::Result<(
     }
 }
 
+// The bytes of argument i, at the start of buf, and how many they are: none where it is too long. Nothing where there is no such argument.
+fn argument<R: Env>(rt: &R, i: usize, buf: &mut [u8]) -> Option<usize>
+    ensures { IfSome result (λ n. n ≤ length buf.new) }
+{
+    match rt.arg(i, buf) {
+        Ok(n) => Some(n),
+        Err(FillError::TooLong) => Some(0),
+        Err(FillError::NotPresent) => None,
+    }
+}
+
+// Whether there is an argument i.
+fn has_argument<R: Env>(rt: &R, i: usize) -> bool {
+    let mut buf = argument_buffer();
+    argument(rt, i, &mut buf).is_some()
+}
+
+// Replays the file that argument i names.
+fn replay_arg<R: Files + Print + Env>(rt: &R, i: usize, steps: bool) -> io::Result<()> {
+    let mut path = argument_buffer();
+    let n = argument(rt, i, &mut path).unwrap_or(0);
+    rt.write_all(&path[0..n])?;
+    replay_named(rt, &path[0..n], steps)
+}
+
 fn main(rt: HostRuntime) -> io::Result<()> {
-    let args = env::args(&rt)?;
-    let count = args.len();
-    for (i, path) in args.enumerate().skip(1) {
-        replay_arg(&rt, path.as_str(), i + 1 == count)?;
+    for i in 1..usize::MAX {
+        if !has_argument(&rt, i) {
+            break;
+        }
+        replay_arg(&rt, i, !has_argument(&rt, i + 1))?;
     }
     Ok(())
 }

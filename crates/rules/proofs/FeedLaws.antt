@@ -189,7 +189,8 @@ read-drop n s i = ap (reading s (n + i)) (sym (spot_drop n s i)) ∙ go (spot_at
 
 module _ (n : ℕ) (s : List ℕ) where
   turn : (i : ℕ) → ((after : ℕ) → i < after → parse_from s (n + after) ≡ shift n (parse_from (drop n s) after))
-      → (r : Reading Request) → reading_at (drop n s) i ≡ r → on_reading (parse_from s) (n + i) (shift_reading n r) ≡ shift n (on_reading (parse_from (drop n s)) i r)
+      → (r : Reading Request) → reading_at (drop n s) i ≡ r
+      → on_reading (parse_from s) (n + i) (shift_reading n r) ≡ shift n (on_reading (parse_from (drop n s)) i r)
   turn i ih (ask q after) e = ap (with q) (ih after (read_goes (drop n s) i q after e).0)
   turn i ih strange e = refl
   turn i ih short e = refl

@@ -75,7 +75,8 @@ module _ (s : List ℕ) where
 
   ends_at : (m i : ℕ) → i ≤ length s → length s ≤ i + m → Ends s i (parse_from s i).end
   ends_at zero i h g =
-      subst (λ (p : Parsed Request). Ends s i p.end) (sym (parse-step s i)) (ends-step i h (λ after l k. absurd (omega arith)) (reading_at s i) refl (spots s i))
+      subst (λ (p : Parsed Request). Ends s i p.end) (sym (parse-step s i))
+      (ends-step i h (λ after l k. absurd (omega arith)) (reading_at s i) refl (spots s i))
   ends_at (suc m) i h g =
       subst (λ (p : Parsed Request). Ends s i p.end) (sym (parse-step s i))
       (ends-step i h (λ after l k. ends_at m after k (omega arith)) (reading_at s i) refl (spots s i))

@@ -12,7 +12,8 @@ use Rattle.cells.specs.Cells.{le}
 use mathlib.Core.Option.{some}
 use Rattle.rules.specs.declared.Row.{Row}
 use Rattle.rules.specs.Records.{Request, GT, PK, RM, IN, EV, CL, Narrow, AllNarrow}
-use Rattle.rules.specs.Bytes.{bytes_of, row, kind_of, table, find, at, spot_at, made, ask, reading, reading_at, whole, Parsed, with, on_reading, parse_from, parse}
+use Rattle.rules.specs.Bytes.{bytes_of, row, kind_of, table, find, at, spot_at, made, ask, reading, reading_at, whole, Parsed}
+use Rattle.rules.specs.Bytes.{with, on_reading, parse_from, parse}
 use Rattle.rules.specs.Bytes.{written, all_written}
 use Rattle.rules.proofs.ParseLaws.{parse-step, read-end, le-drop, spot_drop, made-drop}
 

@@ -170,7 +170,8 @@ module _ (head piece : List ℕ) (from : ℕ) {v w : Survey} (g : v ≡ surveyed
   ran {k} {l} q u = record { runs = a; room = omega (arith, rooms head piece from g h); put = (subst (λ (x : Carry). CarryPut c x c') q u).is }
 
   goes : {o : ℕ} {l : List ℕ} {k : Carry} {r : Fed} → record { offset = o; kept = l; stopped = false } ≡ k
-      → WentOn c (record { offset = o; kept = l; stopped = false }) c' n r → FedOn z s s₂ c c' p p₂ ((parse head).requests ++ (parse_from piece from).requests) k r
+      → WentOn c (record { offset = o; kept = l; stopped = false }) c' n r
+      → FedOn z s s₂ c c' p p₂ ((parse head).requests ++ (parse_from piece from).requests) k r
   goes {k = k} q u =
       subst (FedOn z s s₂ c c' p p₂ ((parse head).requests ++ (parse_from piece from).requests) k) (sym u.answer)
       (record { fed = (ap (λ (x : Carry). x.stopped) (sym q), ran q u.put) })

@@ -72,7 +72,8 @@ spoken_bytes w r = encode-append (pushed_of w) (told r ∷ []) ∙ ap (λ l. enc
 spoken_length : (w : Pushed) (r : Reply·) → length (encode_all (pushed_of w ++ (told r ∷ []))) ≡ length (encode_all (pushed_of w)) + length (encode (told r))
 spoken_length w r = ap length (spoken_bytes w r) ∙ length-append (encode_all (pushed_of w)) (encode (told r))
 
-pub first_fits : {n : ℕ} (i : ℕ) (w : Pushed) (r : Reply·) → i + length (encode_all (pushed_of w ++ (told r ∷ []))) ≤ n → i + length (encode_all (pushed_of w)) ≤ n
+pub first_fits : {n : ℕ} (i : ℕ) (w : Pushed) (r : Reply·) → i + length (encode_all (pushed_of w ++ (told r ∷ []))) ≤ n
+    → i + length (encode_all (pushed_of w)) ≤ n
 first_fits i w r h = omega (arith, spoken_length w r)
 
 pub closing-fits : {p p₁ : List ℕ} {i m : ℕ} (w : Pushed) (r : Reply·) → i + length (encode_all (pushed_of w ++ (told r ∷ []))) ≤ length p

@@ -87,7 +87,8 @@ module _ (s c q p s' c' p' : List ℕ) (a : Said) (σ : State) (k : Carry) (g : 
 
       pick : (t : Bool) → k.stopped ≡ t → Leaves (cond t (turned_away (BadRecord k.offset)) rest) → Went s c (feed_on σ k q) (replies_in a) s' c' p'
       pick true e l = stays e l
-      pick false e l = moves (passes (ltb (length p) (room_for (completed k q))) (NoRoom (room_for (completed k q))) (fed (feed_on σ k q)) (λ e. omega arith) l).1
+      pick false e l =
+          moves (passes (ltb (length p) (room_for (completed k q))) (NoRoom (room_for (completed k q))) (fed (feed_on σ k q)) (λ e. omega arith) l).1
 
   -- what is carried on could be left
   next-carry : runs_over k (length q) ≡ false → Went s c (feed_on σ k q) (replies_in a) s' c' p' → CarryAs c' (feed_on σ k q).carry

@@ -103,7 +103,8 @@ module _ (z : Shape) (s : List ℕ) (b : Bytes s) where
   narrow-value y = ap bit (lt-leb words (get_or (cols z s Value) y 0) (cols-lt z s Value refl b y))
 
   narrow_entries : (l : List ℕ) → total (λ y. wide (get_or (cols z s Key) y 0) + wide (get_or (cols z s Value) y 0)) l ≡ 0
-  narrow_entries l = total-none (λ y. wide (get_or (cols z s Key) y 0) + wide (get_or (cols z s Value) y 0)) l (λ y m. omega (arith, narrow-key y, narrow-value y))
+  narrow_entries l =
+      total-none (λ y. wide (get_or (cols z s Key) y 0) + wide (get_or (cols z s Value) y 0)) l (λ y m. omega (arith, narrow-key y, narrow-value y))
 
   pub bytes-narrow : too_wide (state_in z s) ≡ 0
   unfolding state_in

@@ -103,7 +103,8 @@ module _ (z : Shape) (s s' : List ℕ) (a : List ℕ) (x : ℕ) (b : List ℕ) w
   released-queue Main h m = carried-alike z s s' _ (m.of a b h) m.alike ∙ ap (λ l. set_queue Main l (state_in z s)) (map-append e a b)
 
   -- out of the ghosts
-  pub released_ghost : lists_of z (cols z s) ghosts_no ≡ a ++ x ∷ b → Released z s s' ghosts_no x → state_in z s' ≡ set_ghosts (map k a ++ map k b) (state_in z s)
+  pub released_ghost : lists_of z (cols z s) ghosts_no ≡ a ++ x ∷ b → Released z s s' ghosts_no x
+      → state_in z s' ≡ set_ghosts (map k a ++ map k b) (state_in z s)
   unfolding state_in
   released_ghost h m = carried-alike z s s' _ (m.of a b h) m.alike ∙ ap (λ l. set_ghosts l (state_in z s)) (map-append k a b)
 
@@ -217,7 +218,8 @@ module _ (z : Shape) (s s' : List ℕ) (p : Pooled z s) (q : Queue) (a : List �
       ap (λ m. map (entry_at (cols z s')) (view z.room m i)) t.links-kept
       ∙ map-out e₀ (entry_at (cols z s')) x (lists_of z (cols z s) i) (lists-elsewhere p.carries.lists own-list a x b h i ne l) t.others
 
-  touched-ghosts : (n : Entry) → Touched n → map (key_at (cols z s')) (lists_of z (cols z s') ghosts_no) ≡ map (key_at (cols z s)) (lists_of z (cols z s) ghosts_no)
+  touched-ghosts : (n : Entry) → Touched n
+      → map (key_at (cols z s')) (lists_of z (cols z s') ghosts_no) ≡ map (key_at (cols z s)) (lists_of z (cols z s) ghosts_no)
   touched-ghosts n t = ap₂ (λ l m. map (node_key m) (view z.room l ghosts_no)) t.links-kept t.keys_kept
 
 -- the entry at x alone is another
@@ -281,7 +283,8 @@ module _ (z : Shape) (s s' : List ℕ) (p : Pooled z s) (q : Queue) (a : List �
         own = rw (k, u, m, get_or-set_same (cols z s Freq) x v 0 (rw (length-cols z s Freq refl) (omega arith)));
       })
 
-  pub valued : SetsField z s s' Value x v → state_in z s' ≡ put_at q (map (entry_at (cols z s)) a) (revalue v e₁ ∷ []) (map (entry_at (cols z s)) b) (state_in z s)
+  pub valued : SetsField z s s' Value x v
+      → state_in z s' ≡ put_at q (map (entry_at (cols z s)) a) (revalue v e₁ ∷ []) (map (entry_at (cols z s)) b) (state_in z s)
   valued w =
       touched z s s' p q a x b h (revalue v e₁)
       (record {

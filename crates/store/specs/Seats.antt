@@ -75,7 +75,8 @@ pub record EntryRemoved (z : Shape) (s s' : List ℕ) (q : Queue) (x : ℕ) : Ty
 
 -- the entry at x went to Main's head with the frequency n
 pub record Reattached (z : Shape) (s s' : List ℕ) (q : Queue) (x n : ℕ) : Type 0 where
-  pub of : (b : List Entry) (e : Entry) (a : List Entry) → Seat z s q x b e a → Becomes z s s' (push_to Main (with_freq n e) (set_queue q (b ++ a) (state_in z s)))
+  pub of : (b : List Entry) (e : Entry) (a : List Entry) → Seat z s q x b e a
+      → Becomes z s s' (push_to Main (with_freq n e) (set_queue q (b ++ a) (state_in z s)))
 
 -- the entry at x left its queue, and its node is the newest ghost
 pub record DetachedToGhosts (z : Shape) (s s' : List ℕ) (q : Queue) (x : ℕ) : Type 0 where

@@ -1,11 +1,8 @@
 -- `key_index::bucket_of_key` meets its contract.
-use borrow.Author.Rules.{rules}
 use mathlib.Core.Path.{refl}
 use Rattle.key_index.specs.Index.{bucket_of}
 use Rattle.key_index.proofs.IndexLaws.{bucket-below}
 use Rattle.key_index.proofs.bucket_of_key.Goals as goal
-
-ruleset laws = (rules, bucket-below)
 
 pub returns : goal.returns
 unfolding bucket_of

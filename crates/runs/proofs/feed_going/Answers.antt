@@ -1,10 +1,8 @@
 -- `runs::feed_going` meets its contract.
 use borrow.Author.Rules.{rules}
-use Rattle.runs.proofs.PieceLaws.{brings_long, brings_few, brings_waits, cut-part, cut-few, going_cut, going_unknown}
-use Rattle.runs.proofs.PieceLaws.{whole_part, whole-begun, whole_in, part-few, going_whole}
+use Rattle.runs.proofs.PieceLaws.{brings_long, brings_few, brings_waits, cut-part, going_cut, going_unknown}
+use Rattle.runs.proofs.PieceLaws.{whole_part, whole-begun, going_whole}
 use Rattle.runs.proofs.feed_going.Goals as goal
-
-ruleset bounds = (rules, brings_long, brings_few, brings_waits, cut-few, part-few, whole_in)
 
 pub join-joined-requires : goal.join-joined-requires
 join-joined-requires c = (search brings_long, search brings_few, search brings_waits, search rules)

@@ -1,16 +1,24 @@
-// What the programs share to take their input in: a buffer, and reading until it is full.
+// What the programs share to take their input in (RULES 9, RULES 10): buffers, and reading until one is full.
 #![tactic(auto)]
 
 ghost use Rattle.std.specs.Prelude.{◌≡◌, ◌≤◌, length};
 
 use std::io::Read;
 
-// The bytes of a large buffer.
+const BUFFER_BYTES: usize = 4096;
+
 const LARGE_BUFFER_BYTES: usize = 65536;
 
-// Zeros, of which the contract gives the number alone, so that no proof has to write them out.
+// Zeros, of which the contract gives the number alone, so that no proof has to write them out: enough for an argument.
+pub fn buffer() -> [u8; BUFFER_BYTES]
+    ensures { BUFFER_BYTES ≡ length result }
+{
+    [0; BUFFER_BYTES]
+}
+
+// The same for a store, for requests or for replies.
 pub fn large_buffer() -> [u8; LARGE_BUFFER_BYTES]
-    ensures { 65536 ≡ length result }
+    ensures { LARGE_BUFFER_BYTES ≡ length result }
 {
     [0; LARGE_BUFFER_BYTES]
 }

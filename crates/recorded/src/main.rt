@@ -25,9 +25,6 @@ use std::{fs, io};
 // What stands in the reply buffer before a call, so that untouched bytes can be told.
 const UNTOUCHED: u8 = 165;
 
-// The bytes of the longest argument that is read.
-const MOST_ARGUMENT_BYTES: usize = 4096;
-
 // What replaying one case or step gave.
 #[derive(Clone, Copy)]
 enum Case {
@@ -67,13 +64,6 @@ struct Tally {
     differ: u64,
     going: bool,
     whole: bool,
-}
-
-// Zeros, of which the contract gives the number alone, so that no proof has to write them out.
-fn argument_buffer() -> [u8; MOST_ARGUMENT_BYTES]
-    ensures { 4096 ≡ length result }
-{
-    [0; MOST_ARGUMENT_BYTES]
 }
 
 fn accepted(count: usize) -> Told
@@ -712,13 +702,13 @@ fn argument<R: Env>(rt: &R, i: usize, buf: &mut [u8]) -> Option<usize>
 
 // Whether there is an argument i.
 fn has_argument<R: Env>(rt: &R, i: usize) -> bool {
-    let mut buf = argument_buffer();
+    let mut buf = intake::buffer();
     argument(rt, i, &mut buf).is_some()
 }
 
 // Replays the file that argument i names.
 fn replay_arg<R: Files + Print + Env>(rt: &R, i: usize, steps: bool) -> io::Result<()> {
-    let mut path = argument_buffer();
+    let mut path = intake::buffer();
     let n = argument(rt, i, &mut path).unwrap_or(0);
     rt.write_all(&path[0..n])?;
     replay_named(rt, &path[0..n], steps)

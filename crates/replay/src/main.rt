@@ -22,12 +22,6 @@ use std::io;
 // The settings, the most request bytes of a call, and one byte more, so that more than that shows.
 const MOST_INPUT_BYTES: usize = 32795;
 
-// How many bytes there are for replies.
-const REPLY_ROOM: usize = 65536;
-
-// A longer argument is none that the program knows.
-const MOST_ARGUMENT_BYTES: usize = 4096;
-
 // The mark of a refusal.
 const NO: [u8; 2] = *b"NO";
 
@@ -57,18 +51,6 @@ fn store_buffer() -> [u8; S3FifoCache::STORE_BYTES]
     ensures { store_bytes ≡ length result }
 {
     [0; S3FifoCache::STORE_BYTES]
-}
-
-fn reply_buffer() -> [u8; REPLY_ROOM]
-    ensures { reply_room ≡ length result }
-{
-    [0; REPLY_ROOM]
-}
-
-fn argument_buffer() -> [u8; MOST_ARGUMENT_BYTES]
-    ensures { 4096 ≡ length result }
-{
-    [0; MOST_ARGUMENT_BYTES]
 }
 
 // Writes the record of a refusal with this number and detail.
@@ -200,7 +182,7 @@ fn put<R: Print + Eprint>(rt: &R, bytes: &[u8], n: usize)
 fn answer<R: Print + Eprint>(rt: &R, input: &[u8], n: usize)
     requires { (most_input ≡ length input.now) × (n ≤ length input.now) }
 {
-    let mut replies = reply_buffer();
+    let mut replies = intake::large_buffer();
     let count = reply_within(input, n, &mut replies);
     put(rt, &replies, count);
 }
@@ -230,7 +212,8 @@ fn tell<R: Print + Eprint>(rt: &R, argument: &[u8]) {
 }
 
 fn main(rt: HostRuntime) {
-    let mut argument = argument_buffer();
+    // A longer argument is none that the program knows.
+    let mut argument = intake::buffer();
     match rt.arg(1, &mut argument) {
         Ok(n) => tell(&rt, &argument[..n]),
         Err(FillError::TooLong) => tell(&rt, b""),

@@ -159,7 +159,7 @@ counted_next {t} {n} {x} {count} {w} r h e = record {
 -- a count of heads fits four bytes
 pub counted-fits : (z : Shape) (s : List ℕ) {t : ℕ → ℕ} {x count w : ℕ} → Room z s → CountedTo t z.buckets x count → x < z.buckets → Weighs t x w
     → Fits w32 (count + w)
-counted-fits z s room r h e = omega (arith, room.few-buckets, r.few, e.small)
+counted-fits z s room r h e = omega (arith, room.few_buckets, r.few, e.small)
 
 pub counted-end : {t : ℕ → ℕ} {n x count : ℕ} → CountedTo t n x count → n ≤ x → Counts t n count
 counted-end {t} {n} {x} r h = record { number = r.number ∙ ap (count_to t) (omega (arith, r.bound, h)) }

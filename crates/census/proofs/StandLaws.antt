@@ -107,7 +107,7 @@ pub standing_start : (z : Shape) (s : List ℕ) → Standing z s 0 0 0 0
 standing_start z s = record { vouched = vouched-start z s; counted_live = counted_start; counted-links = counted_start }
 
 pub standing_broken : (z : Shape) (s : List ℕ) {x : ℕ} {t : Census} → Visits z (cols z s) x t → Room z s → t ≡ Broken → Decides (Indexes z (cols z s)) false
-standing_broken z s v room e = refuse (breaks z (cols z s) v room.some-buckets e)
+standing_broken z s v room e = refuse (breaks z (cols z s) v room.some_buckets e)
 
 module _ (z : Shape) (s : List ℕ) {x sum live links : ℕ} (g : Standing z s x sum live links) where
   module _ {t : Census} (v : Visits z (cols z s) x t) {m : ℕ} (e : t ≡ Count m) where
@@ -133,7 +133,7 @@ module _ (z : Shape) (s : List ℕ) {x sum live links : ℕ} (g : Standing z s x
   -- the heads are counted too
   module _ (room : Room z s) {heads : ℕ} (h : Counts (leads z (cols z s)) z.buckets heads) where
     pub standing_sum : Fits w64 (heads + links)
-    standing_sum = omega (arith, counts-few h, g.counted-links.few, g.counted-links.bound, room.few, room.few-buckets)
+    standing_sum = omega (arith, counts-few h, g.counted-links.few, g.counted-links.bound, room.few, room.few_buckets)
 
     module _ (done : z.room ≤ x) where
       heads-long : length (ones (leads z (cols z s)) z.buckets) ≡ heads
@@ -147,7 +147,7 @@ module _ (z : Shape) (s : List ℕ) {x sum live links : ℕ} (g : Standing z s x
 
       pub standing_uneven : (heads + links ≡ live → ⊥) → Decides (Indexes z (cols z s)) false
       standing_uneven ne = refuse (λ ix.
-          ne (omega (arith, arrows_count (col (cols z s Key)) (counted z s) room.some-buckets ix.index, heads-long, links-long, live_long)))
+          ne (omega (arith, arrows_count (col (cols z s Key)) (counted z s) room.some_buckets ix.index, heads-long, links-long, live_long)))
 
       pub standing_end : EndOk z (cols z s) → heads + links ≡ live → Decides (Indexes z (cols z s)) (eqb sum live)
       standing_end ends even =
@@ -155,10 +155,10 @@ module _ (z : Shape) (s : List ℕ) {x sum live links : ℕ} (g : Standing z s x
           let a = counted z s in
           decides_eq sum live
           (λ e. record {
-            index = arrows_index (col (c Key)) a room.some-buckets
+            index = arrows_index (col (c Key)) a room.some_buckets
                 (vouching_stands z.room z.buckets (col (c Key)) (col (c Chain)) (col (c Bucket)) (LiveIn z c) x sum 0 g.vouched done a.below
                 (ones (lives c) z.room) a.have (e ∙ sym live_long)) (omega (arith, heads-long, links-long, live_long, even)) ends.home;
             unlisted = ends.unlisted;
           })
           (λ ix. vouching_all z.room z.buckets (col (c Key)) (col (c Chain)) (col (c Bucket)) (LiveIn z c) x sum 0 g.vouched done a.below
-          (ones (lives c) z.room) a.have a.apart a.are room.some-buckets ix.index ∙ live_long)
+          (ones (lives c) z.room) a.have a.apart a.are room.some_buckets ix.index ∙ live_long)

@@ -109,4 +109,4 @@ module _ {z : Shape} {s : List ℕ} (h : Held z s) {a b : ℕ} (e : a ≡ length
   residents-are = omega (arith, length-total (state_in z s).small, length-total (state_in z s).main)
 
   pub residents-fit : Fits w64 (a + b)
-  residents-fit = omega (arith, residents-are, h.sound.within, h.sound.fine.capacity-fits)
+  residents-fit = omega (arith, residents-are, h.sound.within, h.sound.fine.capacity_fits)

@@ -51,7 +51,7 @@ module _ {z : Shape} {s : List ℕ} {q : Queue} {x : ℕ} (t : Tail z s q x) {e 
       record {
         before = t.before;
         entry = t.entry;
-        tail-is = seat-queue z s t.seat;
+        tail_is = seat-queue z s t.seat;
         went = λ i.
             record {
               warm = lt-ltb 0 t.entry.freq (omega (arith, freq-is));
@@ -69,7 +69,7 @@ module _ {z : Shape} {s : List ℕ} {q : Queue} {x : ℕ} (t : Tail z s q x) {e 
       record {
         before = t.before;
         entry = t.entry;
-        tail-is = seat-queue z s t.seat;
+        tail_is = seat-queue z s t.seat;
         went = λ i. let n : ◌≡◌ {A = ℕ} 0 1 = cc in absurd (omega arith);
         stays = λ y k v i. stays_at y k v i;
       }

@@ -75,7 +75,7 @@ module _ {z : Shape} {s : List ℕ} (h : Held z s) (q : QueueKind) (v : Picks z 
       let σ : State = state_in z s in
       let w = p.went e in
       let n : step σ ≡ moved (queue_kind q) (back (queue_kind q) p.before p.entry σ) =
-      step-moves σ (queue_kind q) p.before p.entry v.picked p.tail-is w.warm in
+      step-moves σ (queue_kind q) p.before p.entry v.picked p.tail_is w.warm in
       record {
         held = record { keeps = w.becomes.keeps; sound = rw w.becomes.state (moved-sound n h.sound) };
         turn = n ∙ ap (moved (queue_kind q)) (sym w.becomes.state);
@@ -88,7 +88,7 @@ module _ {z : Shape} {s : List ℕ} (h : Held z s) (q : QueueKind) (v : Picks z 
       let c = p.stays x k u e in
       let m : Leaves z s s₂ (queue_kind q) x = rw c.same at m₀ in
       let n : step σ ≡ left (queue_kind q) p.entry (ghosted (queue_kind q) p.entry (set_queue (queue_kind q) p.before σ)) =
-      step-leaves σ (queue_kind q) p.before p.entry v.picked p.tail-is (cold-wanted p e) in
+      step-leaves σ (queue_kind q) p.before p.entry v.picked p.tail_is (cold-wanted p e) in
       let b = m.of p.before p.entry c.seat in
       record {
         held = record { keeps = b.keeps; sound = rw b.state (left-sound n h.sound) };

@@ -54,7 +54,7 @@ pub record StaysTail (z : Shape) (s s' : List ℕ) (q : Queue) (b : List Entry) 
 pub record PopsTail (z : Shape) (s s' : List ℕ) (q : Queue) (r : Popped) : Type 0 where
   pub before : List Entry
   pub entry : Entry
-  pub tail-is : queue_of q (state_in z s) ≡ before ++ (entry ∷ [])
+  pub tail_is : queue_of q (state_in z s) ≡ before ++ (entry ∷ [])
   pub went : r ≡ Back → GoesBack z s s' q before entry
   pub stays : (x : ℕ) (k : GuestBlock) (v : PhysicalBlock) → r ≡ Cold x k v → StaysTail z s s' q before entry x k.0 v.0
 

@@ -78,7 +78,7 @@ module _ {z : Shape} {s : List ℕ} {k : ℕ} where
   unfolding remove_ghost
   took_there l {x} e m =
       let h = l.is_ghost x e in
-      let w : remove_ghost k (ghosts_in z s) ≡ record { ghosts = h.before ++ h.after; was = true } = ap (without (ghosts_in z s)) h.split-is in
+      let w : remove_ghost k (ghosts_in z s) ≡ record { ghosts = h.before ++ h.after; was = true } = ap (without (ghosts_in z s)) h.split_is in
       record { becomes = rw w (m.of h.before k h.after h.seat); was = rw w }
 
   not_there : Keeps z s → total (λ y. bit (eqb k y)) (ghosts_in z s) ≡ 0 → Took z s s k false
@@ -113,7 +113,7 @@ module _ {z : Shape} {s : List ℕ} (k : ℕ) where
     pub recorded-there : {s' : List ℕ} {x : ℕ} → r ≡ Ghost x → Fronted z s s' x → Recorded z s s' k Nothing
     recorded-there {s'} {x} q m =
         let h = l.is_ghost x q in
-        recorded (keeps (k ∷ (h.before ++ h.after))) (record-there (ghost_limit_in z s) k (ghosts_in z s) h.before k h.after (omega arith) h.split-is)
+        recorded (keeps (k ∷ (h.before ++ h.after))) (record-there (ghost_limit_in z s) k (ghosts_in z s) h.before k h.after (omega arith) h.split_is)
         (record { becomes = m.of h.before k h.after h.seat; back = refl })
 
     -- a key that is resident is not recorded
@@ -132,7 +132,7 @@ module _ {z : Shape} {s : List ℕ} (k : ℕ) where
         → (total (λ y. bit (eqb k y)) (cond t (keeps (ghosts_in z s)) (evict_lru (ghosts_in z s))).ghosts ≡ 0)
         × (length (cond t (keeps (ghosts_in z s)) (evict_lru (ghosts_in z s))).ghosts < ghost_limit_in z s)
     room_for true e = (omega (arith, lack.none), omega (arith, ltb-true))
-    room_for false e = (omega (arith, lack.none, lru_total (λ y. bit (eqb k y)) (ghosts_in z s)), omega (arith, lru_less (ghosts_in z s), h.sound.few-ghosts))
+    room_for false e = (omega (arith, lack.none, lru_total (λ y. bit (eqb k y)) (ghosts_in z s)), omega (arith, lru_less (ghosts_in z s), h.sound.few_ghosts))
 
     pub can_push : CanPushFront z s₁ k
     can_push =
@@ -194,7 +194,7 @@ module _ {z : Shape} {s s₁ s₂ : List ℕ} {x : ℕ} (h : Held z s) (m : Deta
     tail-recorded : Becomes z s s₂ (ghosted Small e (set_queue Small b (state_in z s)))
     tail-recorded =
         let w =
-        by_trim (ghost_limit_in z s) e.key (ghosts_in z s) h.sound.few-ghosts no_ghost
+        by_trim (ghost_limit_in z s) e.key (ghosts_in z s) h.sound.few_ghosts no_ghost
         (ltb (ghost_limit_in z s) (suc (length (ghosts_in z s)))) refl in
         rw w (becomes_then fell (rw fell.state at r.becomes))
 

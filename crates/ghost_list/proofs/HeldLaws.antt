@@ -69,8 +69,8 @@ module _ (σ : State) (k : ℕ) (absent : keyed k σ ≡ 0) (s : Sound σ) where
         fine = s.fine;
         within = s.within;
         once = λ j. once_by j (eqb j k) refl;
-        cool-enough = s.cool-enough;
-        few-ghosts = record-length σ.limits.ghost_limit k σ.ghosts s.few-ghosts;
+        cool_enough = s.cool_enough;
+        few_ghosts = record-length σ.limits.ghost_limit k σ.ghosts s.few_ghosts;
         narrow = omega (arith, record-total wide σ.limits.ghost_limit k σ.ghosts, narrow_wide k w, s.narrow);
       }
 

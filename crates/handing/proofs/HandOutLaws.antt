@@ -55,7 +55,7 @@ module _ {z : Shape} {s s₁ : List ℕ} {q : Queue} {r : Popped} (p : PopsTail 
       record {
         before = p.before;
         entry = p.entry;
-        tail-is = p.tail-is;
+        tail_is = p.tail_is;
         cold = λ k v n. absurd (out-not (sym n));
         out = λ k v n. absurd (out-not (sym n));
         went = λ i. p.went e;
@@ -66,7 +66,7 @@ module _ {z : Shape} {s s₁ : List ℕ} {q : Queue} {r : Popped} (p : PopsTail 
       record {
         before = p.before;
         entry = p.entry;
-        tail-is = p.tail-is;
+        tail_is = p.tail_is;
         cold = λ l w n. cold-wanted p e;
         out = λ l w n. ap_pair l w (same-pair n);
         went = λ i. absurd (out-not i);
@@ -80,10 +80,10 @@ module _ {z : Shape} {s s₁ : List ℕ} {q : Queue} {r : Popped} (p : PopsTail 
 module _ {z : Shape} {s s₁ : List ℕ} {r : Handing} (p : PopsOut z s s₁ Main r) where
   pub second_back : r ≡ Stays → Comes z s s₁ (second_of (state_in z s)) (told Miss ∷ [])
   second_back e =
-      comes_as (second-pops (state_in z s) p.before p.entry p.tail-is) (rw (p.went e).warm (record { becomes = (p.went e).becomes; replies = refl }))
+      comes_as (second-pops (state_in z s) p.before p.entry p.tail_is) (rw (p.went e).warm (record { becomes = (p.went e).becomes; replies = refl }))
 
   pub second-out : {k : GuestBlock} {v : PhysicalBlock} → r ≡ Out k v → Comes z s s₁ (second_of (state_in z s)) (told (Handed k v) ∷ [])
-  second-out {k} {v} e = comes_as (second-pops (state_in z s) p.before p.entry p.tail-is) (rw (p.cold k v e) (p.out k v e))
+  second-out {k} {v} e = comes_as (second-pops (state_in z s) p.before p.entry p.tail_is) (rw (p.cold k v e) (p.out k v e))
 
 -- ---- the first
 
@@ -95,25 +95,25 @@ module _ {z : Shape} {s : List ℕ} {n : ℕ} (e : n ≡ length (state_in z s).s
   starts-small h = record { first = rw (null-some (state_in z s).small (λ m. h (e ∙ m))) }
 
 module _ {z : Shape} {s s₁ : List ℕ} {q : Queue} {r : Handing} (p : PopsOut z s s₁ q r) where
-  first-is : first_queue (state_in z s) ≡ q
+  first_is : first_queue (state_in z s) ≡ q
       → first_of (state_in z s) ≡ cond (wanted p.entry) (second_of (back q p.before p.entry (state_in z s))) (hands q p.before p.entry (state_in z s))
-  first-is f = first-pops (state_in z s) q p.before p.entry f p.tail-is
+  first_is f = first-pops (state_in z s) q p.before p.entry f p.tail_is
 
   pub first_out : Starts z s q → {k : GuestBlock} {v : PhysicalBlock} → r ≡ Out k v → Comes z s s₁ (first_of (state_in z s)) (told (Handed k v) ∷ [])
-  first_out f {k} {v} e = comes_as (first-is f.first) (rw (p.cold k v e) (p.out k v e))
+  first_out f {k} {v} e = comes_as (first_is f.first) (rw (p.cold k v e) (p.out k v e))
 
   -- it went back to Main
   module _ (e : r ≡ Stays) where
     pub back-held : Held z s → Held z s₁
     back-held h =
         let b = (p.went e).becomes in
-        record { keeps = b.keeps; sound = rw b.state (back-sound q p.before p.entry (state_in z s) p.tail-is h.sound) }
+        record { keeps = b.keeps; sound = rw b.state (back-sound q p.before p.entry (state_in z s) p.tail_is h.sound) }
 
     pub back_some : 1 ≤ length (state_in z s₁).main
     back_some = omega (arith, ap (λ (σ : State). length σ.main) (p.went e).becomes.state)
 
     pub first_back : Starts z s q → {s₂ : List ℕ} {l : List Reply} → Comes z s₁ s₂ (second_of (state_in z s₁)) l → Comes z s s₂ (first_of (state_in z s)) l
-    first_back f c = comes_as (first-is f.first) (rw (p.went e).warm (comes_then second_of (p.went e).becomes c))
+    first_back f c = comes_as (first_is f.first) (rw (p.went e).warm (comes_then second_of (p.went e).becomes c))
 
 pub first-none : {z : Shape} {s : List ℕ} {q : Queue} → Held z s → Starts z s q → {n : ℕ} → n ≡ length (queue_of q (state_in z s)) → n ≡ 0
     → Comes z s s (first_of (state_in z s)) (told Miss ∷ [])

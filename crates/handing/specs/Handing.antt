@@ -35,7 +35,7 @@ pub record Starts (z : Shape) (s : List ℕ) (q : Queue) : Type 0 where
 pub record PopsOut (z : Shape) (s s' : List ℕ) (q : Queue) (r : Handing) : Type 0 where
   pub before : List Entry
   pub entry : Entry
-  pub tail-is : queue_of q (state_in z s) ≡ before ++ (entry ∷ [])
+  pub tail_is : queue_of q (state_in z s) ≡ before ++ (entry ∷ [])
   pub cold : (k : GuestBlock) (v : PhysicalBlock) → r ≡ Out k v → wanted entry ≡ false
   pub out : (k : GuestBlock) (v : PhysicalBlock) → r ≡ Out k v → Comes z s s' (hands q before entry (state_in z s)) (told (Handed k v) ∷ [])
   pub went : r ≡ Back → GoesBack z s s' q before entry

@@ -27,11 +27,11 @@ pub record Put (f : ℕ → ℕ) (x v : ℕ) (g : ℕ → ℕ) : Type 0 where
   pub other : (y : ℕ) → y ≢ x → g y ≡ f y
 
 -- a chain stays where its head, its nodes' links and keys, and which nodes of its bucket are live stay
-chain-stays : {n buckets : ℕ} {key link head key' link' head' : ℕ → ℕ} {live live' : ℕ → Type 0} {b : ℕ}
+chain_stays : {n buckets : ℕ} {key link head key' link' head' : ℕ → ℕ} {live live' : ℕ → Type 0} {b : ℕ}
     → Bucketed n buckets key link head live b → head' b ≡ head b
     → ((y : ℕ) → live y → bucket_of (key y) buckets ≡ b → (link' y ≡ link y) × live' y × (key' y ≡ key y))
     → ((y : ℕ) → live' y → bucket_of (key' y) buckets ≡ b → live y × (key' y ≡ key y)) → Bucketed n buckets key' link' head' live' b
-chain-stays {n} {key = key} {link = link} {head = head} {key' = key'} {link' = link'} {b = b} c h on back =
+chain_stays {n} {key = key} {link = link} {head = head} {key' = key'} {link' = link'} {b = b} c h on back =
     let w = c.clean.whole in
     let sound = c.clean.sound in
     record {
@@ -49,7 +49,7 @@ pub reframe : {n buckets : ℕ} {key link head : ℕ → ℕ} {live live' : ℕ 
     → Index n buckets key link head live → Index n buckets key link head live'
 reframe to from ix =
     record {
-      chains = λ b h. chain-stays (ix.chains b h) refl (λ y l q. (refl, to y l, refl)) (λ y l q. (from y l, refl));
+      chains = λ b h. chain_stays (ix.chains b h) refl (λ y l q. (refl, to y l, refl)) (λ y l q. (from y l, refl));
       unique = λ x y l m e. ix.unique x y (from x l) (from y m) e;
       home = ix.home;
     }
@@ -106,7 +106,7 @@ module _ (n buckets : ℕ) (key link head : ℕ → ℕ) (live : ℕ → Type 0)
               full = λ y l r. ⊎_elim (λ e. in-append y s (x ∷ t) (inr (inl e))) (λ m. in-more y x s t (rw all at (c.full y m (rw (old y m) at r)))) l;
             }
         go c (no ne) =
-            chain-stays c (heads a ne) (λ y l q. (keep y l (λ r. ne (sym q ∙ r)), inr l, old y l))
+            chain_stays c (heads a ne) (λ y l q. (keep y l (λ r. ne (sym q ∙ r)), inr l, old y l))
             (λ y l q. ⊎_elim (λ r. absurd (ne (sym q ∙ ap (λ z. bucket_of z buckets) (ap key' r ∙ pk.same) ∙ own))) (λ m. (m, old y m)) l)
 
     pub added : Index n buckets key' link' head' (λ y. (y ≡ x) ⊎ live y)
@@ -140,7 +140,7 @@ module _ (n buckets : ℕ) (key link head : ℕ → ℕ) (live : ℕ → Type 0)
               full = λ y l r. in-less y x s t l.1 (rw all at (c.full y l.0 r));
             }
         go c (no ne) =
-            chain-stays c (heads a ne)
+            chain_stays c (heads a ne)
             (λ y l q. (keep y l (λ r. ne (sym q ∙ r)), (l, λ r. ne (sym q ∙ ap (λ z. bucket_of (key z) buckets) r ∙ own)), refl))
             (λ y l q. (l.0, refl))
 

@@ -81,7 +81,7 @@ module _ (z : Shape) (s : List ℕ) (room : Room z s) (ixs : Indexes z (cols z s
   ix = ixs.index
 
   abbrev some : 0 < z.buckets
-  some = room.some-buckets
+  some = room.some_buckets
 
   -- ---- find
 
@@ -150,10 +150,10 @@ module _ (z : Shape) (s : List ℕ) (room : Room z s) {x k : ℕ} (can : CanJoin
           chain = l;
           bucket = set (cols z s Bucket) b x;
           columns = w₃.columns ∙ ap (λ (c : Cols). over c Bucket b x) e₂ ∙ over-with (with_column c₁ Chain l) Bucket b x;
-          index = add-first can.indexes.index room.some-buckets x k can.below (dead z s can) can.miss.none b eb
+          index = add-first can.indexes.index room.some_buckets x k can.below (dead z s can) can.miss.none b eb
               (put-node z s Key (length-cols z s Key refl) x k can.below) p (rw eh.value at g) out
               (rw (← eh.value) (put-node z s Chain (length-cols z s Chain refl) x h can.below))
-              (put-head z s b x (rw eb (bucket-below k z.buckets room.some-buckets)));
+              (put-head z s b x (rw eb (bucket-below k z.buckets room.some_buckets)));
         }
 
     pub joins-later : p < z.room → {next : ℕ} → GetsField z s Chain p next → {s₂ s₃ : List ℕ} → SetsField z s₁ s₂ Chain x next → SetsField z s₂ s₃ Chain p x
@@ -167,7 +167,7 @@ module _ (z : Shape) (s : List ℕ) (room : Room z s) {x k : ℕ} (can : CanJoin
           chain = set l p x;
           bucket = cols z s Bucket;
           columns = w₃.columns ∙ ap (λ (c : Cols). over c Chain p x) e₂ ∙ over_in c₁ Chain l p x ∙ sym (with-same (with_column c₁ Chain (set l p x)) Bucket);
-          index = add-later can.indexes.index room.some-buckets x k can.below (dead z s can) can.miss.none b eb
+          index = add-later can.indexes.index room.some_buckets x k can.below (dead z s can) can.miss.none b eb
               (put-node z s Key (length-cols z s Key refl) x k can.below) p (rw eh.value at g) inside
               (rw (← en.value) (put-node z s Chain (length-cols z s Chain refl) x next can.below))
               (put-set l p x (omega (arith, inside, length-set (cols z s Chain) x next, length-cols z s Chain refl)));

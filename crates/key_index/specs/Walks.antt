@@ -13,7 +13,7 @@ first_with key k (x ∷ xs) = pick (eqb (key x) k) (At x) (first_with key k xs)
 
 -- r is that node of the whole chain from h
 pub record FirstIs (n : ℕ) (key link : ℕ → ℕ) (k h : ℕ) (r : Found) : Type 0 where
-  pub first-is : (w : Whole n link h) → r ≡ first_with key k w.nodes
+  pub first_is : (w : Whole n link h) → r ≡ first_with key k w.nodes
 
 -- the last of xs, and a where there is none
 abbrev pub last : ℕ → List ℕ → ℕ

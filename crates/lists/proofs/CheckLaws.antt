@@ -210,7 +210,7 @@ module _ {z : Shape} {s : List ℕ} where
   ok-lists : All (ListOk z s) list_count → Lists z (cols z s) (view z.room (cols z s Next))
   ok-lists h =
       record {
-        pool = record { rings = rings; tags = tags; in-q = omega (arith, length-cols z s Queue refl) };
+        pool = record { rings = rings; tags = tags; in_q = omega (arith, length-cols z s Queue refl) };
         counts = counts;
         in_head = omega (arith, length-cols z s Head refl);
       }
@@ -224,8 +224,8 @@ module _ {z : Shape} {s : List ℕ} where
             seg = (leads t b).seg;
             nodes = (leads t b).nodes;
             low = omega arith;
-            in-nx = omega (arith, length-cols z s Next refl);
-            in-pv = omega (arith, length-cols z s Prev refl);
+            in_nx = omega (arith, length-cols z s Next refl);
+            in_pv = omega (arith, length-cols z s Prev refl);
           }
 
       seen : (t : ℕ) (b : t < list_count) → (leads t b).list ≡ view z.room (cols z s Next) t

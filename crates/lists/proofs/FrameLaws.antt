@@ -16,7 +16,7 @@ use Rattle.lists.specs.Lists.{list_count, many, Lists, Untouched, unlink, link, 
 
 pub same-all : (c : Cols) → Untouched c c
 same-all c =
-    record { keys = refl; values = refl; chains = refl; freqs = refl; buckets = refl; rest = refl; heads-below = λ i b. refl; heads-above = λ i b. refl }
+    record { keys = refl; values = refl; chains = refl; freqs = refl; buckets = refl; rest = refl; heads_below = λ i b. refl; heads_above = λ i b. refl }
 
 pub same_then : {c d e : Cols} → Untouched c d → Untouched d e → Untouched c e
 same_then a b =
@@ -27,8 +27,8 @@ same_then a b =
       freqs = b.freqs ∙ a.freqs;
       buckets = b.buckets ∙ a.buckets;
       rest = b.rest ∙ a.rest;
-      heads-below = λ i h. b.heads-below i h ∙ a.heads-below i h;
-      heads-above = λ i h. b.heads-above i h ∙ a.heads-above i h;
+      heads_below = λ i h. b.heads_below i h ∙ a.heads_below i h;
+      heads_above = λ i h. b.heads_above i h ∙ a.heads_above i h;
     }
 
 -- columns that differ from c in the lists' own fields and in the length of list t alone
@@ -42,8 +42,8 @@ same-but b k v n q u e h =
       freqs = q;
       buckets = u;
       rest = e;
-      heads-below = λ i l. h i (omega arith);
-      heads-above = λ i l. h i (omega arith);
+      heads_below = λ i l. h i (omega arith);
+      heads_above = λ i l. h i (omega arith);
     }
 
 -- ---- take and push: the header's other cells, and the tags

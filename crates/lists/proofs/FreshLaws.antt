@@ -48,8 +48,8 @@ module _ (z : Shape) (c : Cols) (t : ℕ) where
           seg = (get_or-set_same (c Next) (z.room + t) (z.room + t) 0 n, get_or-set_same (c Prev) (z.room + t) (z.room + t) 0 p);
           nodes = tt;
           low = omega arith;
-          in-nx = rw length-set n;
-          in-pv = rw length-set p;
+          in_nx = rw length-set n;
+          in_pv = rw length-set p;
         };
         count = get_or-set_same (c Head) (4 + t) 0 0 h;
       }
@@ -98,7 +98,7 @@ module _ {z : Shape} {s₀ s : List ℕ} {t : ℕ} (e : Turns (EmptyingLists z s
           pool = record {
             rings = λ i b. rw (none i b) (d.bare i b).ring;
             tags = λ i b. rw (none i b) tt;
-            in-q = omega (arith, length-cols z s Queue refl);
+            in_q = omega (arith, length-cols z s Queue refl);
           };
           counts = λ i b. rw (none i b) (d.bare i b).count;
           in_head = omega (arith, length-cols z s Head refl);

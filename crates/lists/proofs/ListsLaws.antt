@@ -112,7 +112,7 @@ module _ {z : Shape} {c : Cols} {f : ℕ → List ℕ} (r : Lists z c f) where
         pool = record {
           rings = λ t b. subst (λ (l : List ℕ). Ring z.room (c Next) (c Prev) (z.room + t) l) (e t b) (r.pool.rings t b);
           tags = λ t b. subst (λ (l : List ℕ). Tagged (c Queue) t l) (e t b) (r.pool.tags t b);
-          in-q = r.pool.in-q;
+          in_q = r.pool.in_q;
         };
         counts = λ t b. r.counts t b ∙ ap length (e t b);
         in_head = r.in_head;

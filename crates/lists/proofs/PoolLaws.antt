@@ -57,7 +57,7 @@ module _ (N K : ℕ) (nx pv q : List ℕ) (f : ℕ → List ℕ) (r : Pool N K n
               (λ _. detach_own N nx pv (N + i) a x b ri)
               (λ t n t_k. detach_other N nx pv (N + t) (f t) (r.rings t t_k) x (omega arith, pool-elsewhere t n t_k) m.prev_forth m.next-back);
           tags = upd-all (λ t l. t < K → Tagged q t l) f i (a ++ b) (λ _. every-less (λ y. get_or q y 0 ≡ i) a x b ti) (λ t n. r.tags t);
-          in-q = r.in-q;
+          in_q = r.in_q;
         }
 
     pub pool-gone : Absent K (upd f i (a ++ b)) x
@@ -68,7 +68,7 @@ module _ (N K : ℕ) (nx pv q : List ℕ) (f : ℕ → List ℕ) (r : Pool N K n
   module _ (x : ℕ) (o : Absent K f x) where
     -- a node in no ring gets another tag
     pub pool_retagged : (w : ℕ) → Pool N K nx pv (set q x w) f
-    pool_retagged w = record { rings = r.rings; tags = λ t t_k. tag_frame q t x w (f t) (o t t_k) (r.tags t t_k); in-q = rw length-set r.in-q }
+    pool_retagged w = record { rings = r.rings; tags = λ t t_k. tag_frame q t x w (f t) (o t t_k) (r.tags t t_k); in_q = rw length-set r.in_q }
 
     -- a node in no ring goes to the head of the ring of its tag
     pub pool-given : (j : ℕ) → j < K → x < N → get_or q x 0 ≡ j → Pool N K (attach_nx nx (N + j) x) (attach_pv nx pv (N + j) x) q (upd f j (x ∷ f j))
@@ -81,14 +81,14 @@ module _ (N K : ℕ) (nx pv q : List ℕ) (f : ℕ → List ℕ) (r : Pool N K n
               (omega arith, high N (N + j) (f t) (omega arith) (r.rings t t_k).nodes) (omega arith, o t t_k)
               (first_back N nx pv (N + j) (f j) (r.rings j j_k)).0);
           tags = upd-all (λ t l. t < K → Tagged q t l) f j (x ∷ f j) (λ _. (e, r.tags j j_k)) (λ t n. r.tags t);
-          in-q = r.in-q;
+          in_q = r.in_q;
         }
 
 -- both at once: tagged and given
 pub pool-pushed : (N K : ℕ) (nx pv q : List ℕ) (f : ℕ → List ℕ) → Pool N K nx pv q f → (x : ℕ) → Absent K f x → x < N → (j : ℕ) → j < K
     → Pool N K (attach_nx nx (N + j) x) (attach_pv nx pv (N + j) x) (set q x j) (upd f j (x ∷ f j))
 pool-pushed N K nx pv q f r x o x_n j j_k =
-    pool-given N K nx pv (set q x j) f (pool_retagged N K nx pv q f r x o j) x o j j_k x_n (get_or-set_same q x j 0 (omega (arith, r.in-q)))
+    pool-given N K nx pv (set q x j) f (pool_retagged N K nx pv q f r x o j) x o j j_k x_n (get_or-set_same q x j 0 (omega (arith, r.in_q)))
 
 -- ---- how many nodes there are
 

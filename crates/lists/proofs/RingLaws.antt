@@ -29,11 +29,11 @@ detach_pv nx pv x = set pv (get_or nx x 0) (get_or pv x 0)
 
 module _ (N : ℕ) (nx pv : List ℕ) (s : ℕ) (l : List ℕ) (r : Ring N nx pv s l) where
   pub ring_nx : (i w : ℕ) → Out i (s ∷ l) → Ring N (set nx i w) pv s l
-  ring_nx i w o = record { seg = seg_nx nx pv i w s l s o r.seg; nodes = r.nodes; low = r.low; in-nx = rw length-set r.in-nx; in-pv = r.in-pv }
+  ring_nx i w o = record { seg = seg_nx nx pv i w s l s o r.seg; nodes = r.nodes; low = r.low; in_nx = rw length-set r.in_nx; in_pv = r.in_pv }
 
   pub ring_pv : (i w : ℕ) → Out i (s ∷ l) → Ring N nx (set pv i w) s l
   ring_pv i w o =
-      record { seg = seg_pv nx pv i w s l s o.1 o.0 r.seg; nodes = r.nodes; low = r.low; in-nx = r.in-nx; in-pv = rw length-set r.in-pv }
+      record { seg = seg_pv nx pv i w s l s o.1 o.0 r.seg; nodes = r.nodes; low = r.low; in_nx = r.in_nx; in_pv = rw length-set r.in_pv }
 
   -- the sentinel is no member of its list
   pub ring_out : Out s l
@@ -51,8 +51,8 @@ module _ (N : ℕ) (nx pv : List ℕ) (s : ℕ) (l : List ℕ) (r : Ring N nx pv
         seg = keep nx pv x (get_or pv x 0) (get_or nx x 0) np pn s l s o o.0 r.seg;
         nodes = r.nodes;
         low = r.low;
-        in-nx = rw length-set r.in-nx;
-        in-pv = rw length-set r.in-pv;
+        in_nx = rw length-set r.in_nx;
+        in_pv = rw length-set r.in_pv;
       }
 
 pub attach_other : (N : ℕ) (nx pv : List ℕ) (s : ℕ) (l : List ℕ) → Ring N nx pv s l → (t x : ℕ) → Out t (s ∷ l) → Out x (s ∷ l)
@@ -77,8 +77,8 @@ module _ (N : ℕ) (nx pv : List ℕ) (s : ℕ) (l : List ℕ) (r : Ring N nx pv
   unfolding attach_nx attach_pv
   attach_own x x_n o =
       let b : N ≤ s = r.low in
-      let bn : s < length nx = r.in-nx in
-      let bp : s < length pv = r.in-pv in
+      let bn : s < length nx = r.in_nx in
+      let bp : s < length pv = r.in_pv in
       let ne : s ≢ x = omega arith in
       record {
         seg =
@@ -86,8 +86,8 @@ module _ (N : ℕ) (nx pv : List ℕ) (s : ℕ) (l : List ℕ) (r : Ring N nx pv
             (ring_out N nx pv s l r) (ring_out N nx pv s l r) r.seg;
         nodes = (x_n, r.nodes);
         low = b;
-        in-nx = simp length-set bn;
-        in-pv = simp length-set bp;
+        in_nx = simp length-set bn;
+        in_pv = simp length-set bp;
       }
 
 -- a member of a ring: its neighbours point at it and are in reach, and it stands once
@@ -124,8 +124,8 @@ module _ (N : ℕ) (nx pv : List ℕ) (s : ℕ) (a : List ℕ) (x : ℕ) (b : Li
   detach_own =
       let m : Member N nx pv s a x b = member in
       let b_n : N ≤ s = r.low in
-      let bn : s < length nx = r.in-nx in
-      let bp : s < length pv = r.in-pv in
+      let bn : s < length nx = r.in_nx in
+      let bp : s < length pv = r.in_pv in
       let ne : s ≢ x = omega arith in
       record {
         seg =
@@ -133,8 +133,8 @@ module _ (N : ℕ) (nx pv : List ℕ) (s : ℕ) (a : List ℕ) (x : ℕ) (b : Li
             (ne, m.not-before) m.not_after ne r.seg;
         nodes = every-less (λ y. y < N) a x b r.nodes;
         low = b_n;
-        in-nx = simp length-set bn;
-        in-pv = simp length-set bp;
+        in_nx = simp length-set bn;
+        in_pv = simp length-set bp;
       }
 
 module _ (N : ℕ) (nx pv : List ℕ) (s : ℕ) where

@@ -32,8 +32,8 @@ pub record Untouched (c d : Cols) : Type 0 where
   pub freqs : d Freq ≡ c Freq
   pub buckets : d Bucket ≡ c Bucket
   pub rest : d Rest ≡ c Rest
-  pub heads-below : (i : ℕ) → i < 4 → get_or (d Head) i 0 ≡ get_or (c Head) i 0
-  pub heads-above : (i : ℕ) → 8 ≤ i → get_or (d Head) i 0 ≡ get_or (c Head) i 0
+  pub heads_below : (i : ℕ) → i < 4 → get_or (d Head) i 0 ≡ get_or (c Head) i 0
+  pub heads_above : (i : ℕ) → 8 ≤ i → get_or (d Head) i 0 ≡ get_or (c Head) i 0
 
 -- ---- what a node's way into a list and out of it does to the columns
 

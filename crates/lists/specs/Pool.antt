@@ -13,7 +13,7 @@ upd f i l t = pick (eqb t i) l (f t)
 pub record Pool (N K : ℕ) (nx pv q : List ℕ) (f : ℕ → List ℕ) : Type 0 where
   pub rings : (t : ℕ) → t < K → Ring N nx pv (N + t) (f t)
   pub tags : (t : ℕ) → t < K → Tagged q t (f t)
-  pub in-q : N ≤ length q
+  pub in_q : N ≤ length q
 
 -- x stands in none of them
 abbrev pub Absent : ℕ → (ℕ → List ℕ) → ℕ → Type 0

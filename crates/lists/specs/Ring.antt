@@ -28,8 +28,8 @@ pub record Ring (N : ℕ) (nx pv : List ℕ) (s : ℕ) (l : List ℕ) : Type 0 w
   pub seg : Seg nx pv s l s
   pub nodes : Every (λ y. y < N) l
   pub low : N ≤ s
-  pub in-nx : s < length nx
-  pub in-pv : s < length pv
+  pub in_nx : s < length nx
+  pub in_pv : s < length pv
 
 -- every member has the tag t in the column q
 abbrev pub Tagged : List ℕ → ℕ → List ℕ → Type 0

@@ -33,9 +33,9 @@ use Rattle.s3_fifo.specs.Streams.{NotTurned, Stream, over, feeds}
 use Rattle.s3_fifo.specs.Calls.{Said, gave, halted, turned, created_says, ran_says, Follows, Created, Called}
 use Rattle.s3_fifo.specs.Once.{Agrees}
 use Rattle.s3_fifo.specs.Chains.{Chain, start, accepted, refused, fed}
-use Rattle.s3_fifo.proofs.ChainLaws.{created-intact, called-intact}
+use Rattle.s3_fifo.proofs.ChainLaws.{created_intact, called_intact}
 use Rattle.s3_fifo.proofs.StreamLaws.{cut_anywhere, as_one_call, finish-says}
-use Rattle.s3_fifo.proofs.WentLaws.{fed-intact, fed-fit}
+use Rattle.s3_fifo.proofs.WentLaws.{fed_intact, fed_fit}
 use Rattle.s3_fifo.proofs.OnceLaws as once
 use Rattle.mapcache.specs.Codes.{code_of, detail_in, CreatedAs, CalledAs, FedWith, FinishedWith}
 use Rattle.mapcache.specs.Exported.{Negative, OneOutcome, nine, OneFed, Streamed, over as over·, feeds as feeds·, Exported}
@@ -77,8 +77,8 @@ numbered_created : (r : Creation) → Numbered ⊥ (created_says r)
 numbered_created Made = tt
 numbered_created (NotMade t) = some_number t
 
-called-apart : (r t : Ran) → code_of (ran_says r) ≡ code_of (ran_says t) → detail_in (ran_says r) ≡ detail_in (ran_says t) → r ≡ t
-called-apart r t e d = once.ran-once r t (code-once (ran_says r) (ran_says t) (numbered_ran r) (numbered_ran t) e d)
+called_apart : (r t : Ran) → code_of (ran_says r) ≡ code_of (ran_says t) → detail_in (ran_says r) ≡ detail_in (ran_says t) → r ≡ t
+called_apart r t e d = once.ran-once r t (code-once (ran_says r) (ran_says t) (numbered_ran r) (numbered_ran t) e d)
 
 -- ---- a creation is refused without a detail
 
@@ -113,9 +113,9 @@ plain {g} {s} {s'} r c =
     plain_follows (created_says r) (sizing g.capacity g.small_ratio g.ghost_ratio) s s'
     (plain-sizing g.capacity g.small_ratio g.ghost_ratio) c.leaves
 
-created-apart : {g h : Settings} {s₁ s₂ t₁ t₂ : List ℕ} (r t : Creation) → Created g s₁ r s₂ → Created h t₁ t t₂
+created_apart : {g h : Settings} {s₁ s₂ t₁ t₂ : List ℕ} (r t : Creation) → Created g s₁ r s₂ → Created h t₁ t t₂
     → code_of (created_says r) ≡ code_of (created_says t) → r ≡ t
-created-apart r t c d e =
+created_apart r t c d e =
     once.creation-once r t (code-once (created_says r) (created_says t) (numbered_created r) (numbered_created t) e (plain r c ∙ sym (plain t d)))
 
 -- ---- one outcome
@@ -123,32 +123,32 @@ created-apart r t c d e =
 refused-bytes : (a : Said) {m : ℤ} {s₁ s₂ : List ℕ} → Numbered ⊥ a → m ≡ code_of a → Agrees a s₁ s₂ → Negative m → s₁ ≡ s₂
 refused-bytes (gave n) k e g h = absurd (subst Negative e h)
 refused-bytes (halted n d) k e g h = absurd k
-refused-bytes (turned n d) k e g h = g.refused-same n d refl
+refused-bytes (turned n d) k e g h = g.refused_same n d refl
 
-created-once : {capacity : ℕ} {small ghost : Float} {s s₁ s₂ : List ℕ} {m n : ℤ} → CreatedAs capacity small ghost s m s₁
+created_once : {capacity : ℕ} {small ghost : Float} {s s₁ s₂ : List ℕ} {m n : ℤ} → CreatedAs capacity small ghost s m s₁
     → CreatedAs capacity small ghost s n s₂ → OneOutcome m n 0 0 s₁ s₂ [] []
-created-once c d =
-    let o = once.created-once c.answer d.answer c.created d.created in
+created_once c d =
+    let o = once.created_once c.answer d.answer c.created d.created in
     record {
       code = c.code_is ∙ ap (λ (r : Creation). code_of (created_says r)) o.answer ∙ sym d.code_is;
       detail = refl;
       replies = refl;
-      refused-same = refused-bytes (created_says c.answer) (numbered_created c.answer) c.code_is o.stores;
+      refused_same = refused-bytes (created_says c.answer) (numbered_created c.answer) c.code_is o.stores;
       said = created_says c.answer;
-      said-is = c.code_is;
+      said_is = c.code_is;
       stores = o.stores;
     }
 
-called-once : {s q p s₁ s₂ p₁ p₂ : List ℕ} {m n : ℤ} {d e : ℕ} → CalledAs s q p m d s₁ p₁ → CalledAs s q p n e s₂ p₂ → OneOutcome m n d e s₁ s₂ p₁ p₂
-called-once c d =
-    let o = once.called-once c.answer d.answer c.called d.called in
+called_once : {s q p s₁ s₂ p₁ p₂ : List ℕ} {m n : ℤ} {d e : ℕ} → CalledAs s q p m d s₁ p₁ → CalledAs s q p n e s₂ p₂ → OneOutcome m n d e s₁ s₂ p₁ p₂
+called_once c d =
+    let o = once.called_once c.answer d.answer c.called d.called in
     record {
       code = c.code_is ∙ ap (λ (r : Ran). code_of (ran_says r)) o.answer ∙ sym d.code_is;
-      detail = c.detail-is ∙ ap (λ (r : Ran). detail_in (ran_says r)) o.answer ∙ sym d.detail-is;
+      detail = c.detail_is ∙ ap (λ (r : Ran). detail_in (ran_says r)) o.answer ∙ sym d.detail_is;
       replies = o.replies;
-      refused-same = refused-bytes (ran_says c.answer) (numbered_ran c.answer) c.code_is o.stores;
+      refused_same = refused-bytes (ran_says c.answer) (numbered_ran c.answer) c.code_is o.stores;
       said = ran_says c.answer;
-      said-is = c.code_is;
+      said_is = c.code_is;
       stores = o.stores;
     }
 
@@ -171,9 +171,9 @@ ran {s} {q} {p} {s'} {p'} {n} c = subst (λ (r : Ran). Called s q p r s' p') (by
     by_code (Done m) e = ap Done (sym (ap above e))
     by_code (Refused t) e = absurd (omega (arith, ap below e, below_minus (number_of t), some_number t))
 
-chain-stays : {s q p s' p' : List ℕ} {m : ℤ} {d : ℕ} {σ₀ : State} {rs : List Request} {bs : List ℕ} → Chain s σ₀ rs bs → CalledAs s q p m d s' p'
+chain_stays : {s q p s' p' : List ℕ} {m : ℤ} {d : ℕ} {σ₀ : State} {rs : List Request} {bs : List ℕ} → Chain s σ₀ rs bs → CalledAs s q p m d s' p'
     → Negative m → Chain s' σ₀ rs bs
-chain-stays {s} {q} {p} {s'} {p'} {m} {d} {σ₀} {rs} {bs} g c h = by_answer c.answer c.code_is c.called
+chain_stays {s} {q} {p} {s'} {p'} {m} {d} {σ₀} {rs} {bs} g c h = by_answer c.answer c.code_is c.called
   where
     by_answer : (r : Ran) → m ≡ code_of (ran_says r) → Called s q p r s' p' → Chain s' σ₀ rs bs
     by_answer (Done n) e k = absurd (subst Negative e h)
@@ -185,36 +185,36 @@ chain-stays {s} {q} {p} {s'} {p'} {m} {d} {σ₀} {rs} {bs} g c h = by_answer c.
 fed-same : (a : Said) {m : ℤ} {s₁ s₂ : List ℕ} → m ≡ code_of a → Agrees a s₁ s₂ → Negative m → (m ≡ nine → ⊥) → s₁ ≡ s₂
 fed-same (gave n) e g h k = absurd (subst Negative e h)
 fed-same (halted n d) e g h k = absurd (k e)
-fed-same (turned n d) e g h k = g.refused-same n d refl
+fed-same (turned n d) e g h k = g.refused_same n d refl
 
-fed-once : {s c q p s₁ s₂ c₁ c₂ p₁ p₂ : List ℕ} {m n : ℤ} {i j d e : ℕ} → FedWith s c q p m i d s₁ c₁ p₁ → FedWith s c q p n j e s₂ c₂ p₂
+fed_once : {s c q p s₁ s₂ c₁ c₂ p₁ p₂ : List ℕ} {m n : ℤ} {i j d e : ℕ} → FedWith s c q p m i d s₁ c₁ p₁ → FedWith s c q p n j e s₂ c₂ p₂
     → OneFed m n i j d e s₁ s₂ c₁ c₂ p₁ p₂
-fed-once f g =
-    let o = once.fed-once f.answer g.answer f.fed g.fed in
+fed_once f g =
+    let o = once.fed_once f.answer g.answer f.fed g.fed in
     record {
       code = f.code_is ∙ ap (λ (r : Fed). code_of (fed_says r)) o.answer ∙ sym g.code_is;
-      replied = f.replied-is ∙ ap (λ (r : Fed). replies_in (fed_says r)) o.answer ∙ sym g.replied-is;
-      detail = f.detail-is ∙ ap (λ (r : Fed). detail_in (fed_says r)) o.answer ∙ sym g.detail-is;
+      replied = f.replied_is ∙ ap (λ (r : Fed). replies_in (fed_says r)) o.answer ∙ sym g.replied_is;
+      detail = f.detail_is ∙ ap (λ (r : Fed). detail_in (fed_says r)) o.answer ∙ sym g.detail_is;
       carries = o.carries;
       replies = o.replies;
-      refused-same = fed-same (fed_says f.answer) f.code_is o.stores;
+      refused_same = fed-same (fed_says f.answer) f.code_is o.stores;
       said = fed_says f.answer;
-      said-is = (f.code_is, f.replied-is, f.detail-is);
+      said_is = (f.code_is, f.replied_is, f.detail_is);
       stores = o.stores;
     }
 
-finished-once : {c : List ℕ} {m n : ℤ} {d e : ℕ} → FinishedWith c m d → FinishedWith c n e → (m ≡ n) × (d ≡ e)
-finished-once f g =
-    let o = once.finished-once f.answer g.answer f.finished g.finished in (
+finished_once : {c : List ℕ} {m n : ℤ} {d e : ℕ} → FinishedWith c m d → FinishedWith c n e → (m ≡ n) × (d ≡ e)
+finished_once f g =
+    let o = once.finished_once f.answer g.answer f.finished g.finished in (
       f.code_is ∙ ap (λ (r : Finish). code_of (finish_says r)) o ∙ sym g.code_is,
-      f.detail-is ∙ ap (λ (r : Finish). detail_in (finish_says r)) o ∙ sym g.detail-is,
+      f.detail_is ∙ ap (λ (r : Finish). detail_in (finish_says r)) o ∙ sym g.detail_is,
     )
 
-chain-feeds : {s c q p s' c' p' : List ℕ} {m : ℤ} {n d : ℕ} {σ₀ : State} {rs : List Request} {bs : List ℕ} → Chain s σ₀ rs bs → Bytes c → Bytes q
+chain_feeds : {s c q p s' c' p' : List ℕ} {m : ℤ} {n d : ℕ} {σ₀ : State} {rs : List Request} {bs : List ℕ} → Chain s σ₀ rs bs → Bytes c → Bytes q
     → (f : FedWith s c q p m n d s' c' p')
     → Chain s' σ₀ (rs ++ carried_out (fed_says f.answer) (completed_of f.fed.carry q)) (bs ++ take n p')
-chain-feeds {q = q} {s' = s'} {p' = p'} {σ₀ = σ₀} {rs = rs} {bs = bs} g b d f =
-    subst (λ (i : ℕ). Chain s' σ₀ (rs ++ carried_out (fed_says f.answer) (completed_of f.fed.carry q)) (bs ++ take i p')) (sym f.replied-is)
+chain_feeds {q = q} {s' = s'} {p' = p'} {σ₀ = σ₀} {rs = rs} {bs = bs} g b d f =
+    subst (λ (i : ℕ). Chain s' σ₀ (rs ++ carried_out (fed_says f.answer) (completed_of f.fed.carry q)) (bs ++ take i p')) (sym f.replied_is)
     (fed g b d f.fed)
 
 numbered_fed : (r : Fed) → Numbered (Unit {0}) (fed_says r)
@@ -238,31 +238,31 @@ fed-goes f g = code-goes (fed_says f.answer) f.code_is g (numbered_fed f.answer)
 streamed : {s c bs s' c' : List ℕ} {ps : List (List ℕ)} → Streamed s c ps bs s' c' → Stream s c ps bs s' c'
 streamed over· = over
 streamed (feeds· {s = s} {c = c} {q = q} {p₁ = p₁} {bs = bs} {s' = s'} {c' = c'} {ps = ps} f g t) =
-    subst (λ (i : ℕ). Stream s c (q ∷ ps) (take i p₁ ++ bs) s' c') (sym f.replied-is)
+    subst (λ (i : ℕ). Stream s c (q ∷ ps) (take i p₁ ++ bs) s' c') (sym f.replied_is)
     (feeds f.fed (fed-goes f g) (streamed t))
 
 finish-says-all : {s c bs s' c' : List ℕ} {m : ℤ} {d : ℕ} (ps : List (List ℕ)) → CarryAs c opening → Streamed s c ps bs s' c' → FinishedWith c' m d
     → let a = verdict_says (ended (parse (glued ps)).end) in (m ≡ code_of a) × (d ≡ detail_in a)
 finish-says-all ps x t f =
-    let e = finish-says ps x (streamed t) f.answer f.finished in (f.code_is ∙ ap code_of e, f.detail-is ∙ ap detail_in e)
+    let e = finish-says ps x (streamed t) f.answer f.finished in (f.code_is ∙ ap code_of e, f.detail_is ∙ ap detail_in e)
 
 pub exported : Exported
 exported =
     record {
-      created-once = created-once;
-      called-once = called-once;
-      created-apart = created-apart;
-      called-apart = called-apart;
-      created-intact = λ c. created-intact (made c);
-      called-intact = λ c. called-intact (ran c);
-      chain-starts = λ c. start (made c);
+      created_once = created_once;
+      called_once = called_once;
+      created_apart = created_apart;
+      called_apart = called_apart;
+      created_intact = λ c. created_intact (made c);
+      called_intact = λ c. called_intact (ran c);
+      chain_starts = λ c. start (made c);
       chain_grows = λ g b c. accepted g b (ran c);
-      chain-stays = chain-stays;
-      fed-once = fed-once;
-      finished-once = finished-once;
-      chain-feeds = chain-feeds;
-      fed-intact = λ f g. fed-intact f.answer f.fed (fed-goes f g);
-      fed-fit = λ f g. fed-fit f.answer f.fed (fed-goes f g);
+      chain_stays = chain_stays;
+      fed_once = fed_once;
+      finished_once = finished_once;
+      chain_feeds = chain_feeds;
+      fed_intact = λ f g. fed_intact f.answer f.fed (fed-goes f g);
+      fed_fit = λ f g. fed_fit f.answer f.fed (fed-goes f g);
       finish-says = finish-says-all;
       cut_anywhere = λ ps qs a b e. cut_anywhere ps qs (streamed a) (streamed b) e;
       as_one_call = λ ps x t c. as_one_call ps x (streamed t) (ran c);

@@ -39,19 +39,19 @@ pub record CalledAs (s q p : List ℕ) (code : ℤ) (detail : ℕ) (s' p' : List
   pub answer : Ran
   pub called : Called s q p answer s' p'
   pub code_is : code ≡ code_of (ran_says answer)
-  pub detail-is : detail ≡ detail_in (ran_says answer)
+  pub detail_is : detail ≡ detail_in (ran_says answer)
 
 -- a feed, as a number, the reply bytes and a detail
 pub record FedWith (s c q p : List ℕ) (code : ℤ) (replied detail : ℕ) (s' c' p' : List ℕ) : Type 0 where
   pub answer : Fed
   pub fed : FedAs s c q p answer s' c' p'
   pub code_is : code ≡ code_of (fed_says answer)
-  pub replied-is : replied ≡ replies_in (fed_says answer)
-  pub detail-is : detail ≡ detail_in (fed_says answer)
+  pub replied_is : replied ≡ replies_in (fed_says answer)
+  pub detail_is : detail ≡ detail_in (fed_says answer)
 
 -- a finish, as a number and a detail
 pub record FinishedWith (c : List ℕ) (code : ℤ) (detail : ℕ) : Type 0 where
   pub answer : Finish
   pub finished : FinishAs c answer
   pub code_is : code ≡ code_of (finish_says answer)
-  pub detail-is : detail ≡ detail_in (finish_says answer)
+  pub detail_is : detail ≡ detail_in (finish_says answer)

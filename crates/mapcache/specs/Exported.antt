@@ -30,9 +30,9 @@ pub record OneOutcome (m n : ℤ) (d e : ℕ) (s₁ s₂ p₁ p₂ : List ℕ) :
   pub code : m ≡ n
   pub detail : d ≡ e
   pub replies : p₁ ≡ p₂
-  pub refused-same : Negative m → s₁ ≡ s₂
+  pub refused_same : Negative m → s₁ ≡ s₂
   pub said : Said
-  pub said-is : m ≡ code_of said
+  pub said_is : m ≡ code_of said
   pub stores : Agrees said s₁ s₂
 
 -- the code of a bad record, which a stream that stops gives, and one that has stopped
@@ -46,9 +46,9 @@ pub record OneFed (m n : ℤ) (i j d e : ℕ) (s₁ s₂ c₁ c₂ p₁ p₂ : L
   pub detail : d ≡ e
   pub carries : c₁ ≡ c₂
   pub replies : p₁ ≡ p₂
-  pub refused-same : Negative m → (m ≡ nine → ⊥) → s₁ ≡ s₂
+  pub refused_same : Negative m → (m ≡ nine → ⊥) → s₁ ≡ s₂
   pub said : Said
-  pub said-is : (m ≡ code_of said) × (i ≡ replies_in said) × (d ≡ detail_in said)
+  pub said_is : (m ≡ code_of said) × (i ≡ replies_in said) × (d ≡ detail_in said)
   pub stores : Agrees said s₁ s₂
 
 -- a stream as C sees it: feeds whose code is not below 0, or is nine
@@ -59,31 +59,31 @@ pub data Streamed : List ℕ → List ℕ → List (List ℕ) → List ℕ → L
 
 pub record Exported : Type 0 where
   -- a call has one outcome
-  pub created-once : {capacity : ℕ} {small ghost : Float} {s s₁ s₂ : List ℕ} {m n : ℤ} → CreatedAs capacity small ghost s m s₁
+  pub created_once : {capacity : ℕ} {small ghost : Float} {s s₁ s₂ : List ℕ} {m n : ℤ} → CreatedAs capacity small ghost s m s₁
       → CreatedAs capacity small ghost s n s₂ → OneOutcome m n 0 0 s₁ s₂ [] []
-  pub called-once : {s q p s₁ s₂ p₁ p₂ : List ℕ} {m n : ℤ} {d e : ℕ} → CalledAs s q p m d s₁ p₁ → CalledAs s q p n e s₂ p₂ → OneOutcome m n d e s₁ s₂ p₁ p₂
-  pub fed-once : {s c q p s₁ s₂ c₁ c₂ p₁ p₂ : List ℕ} {m n : ℤ} {i j d e : ℕ} → FedWith s c q p m i d s₁ c₁ p₁ → FedWith s c q p n j e s₂ c₂ p₂
+  pub called_once : {s q p s₁ s₂ p₁ p₂ : List ℕ} {m n : ℤ} {d e : ℕ} → CalledAs s q p m d s₁ p₁ → CalledAs s q p n e s₂ p₂ → OneOutcome m n d e s₁ s₂ p₁ p₂
+  pub fed_once : {s c q p s₁ s₂ c₁ c₂ p₁ p₂ : List ℕ} {m n : ℤ} {i j d e : ℕ} → FedWith s c q p m i d s₁ c₁ p₁ → FedWith s c q p n j e s₂ c₂ p₂
       → OneFed m n i j d e s₁ s₂ c₁ c₂ p₁ p₂
-  pub finished-once : {c : List ℕ} {m n : ℤ} {d e : ℕ} → FinishedWith c m d → FinishedWith c n e → (m ≡ n) × (d ≡ e)
+  pub finished_once : {c : List ℕ} {m n : ℤ} {d e : ℕ} → FinishedWith c m d → FinishedWith c n e → (m ≡ n) × (d ≡ e)
   -- no two answers share number and detail, so that a host knows why it was turned away; of a creation the number is enough
-  pub created-apart : {g h : Settings} {s₁ s₂ t₁ t₂ : List ℕ} (r t : Creation) → Created g s₁ r s₂ → Created h t₁ t t₂
+  pub created_apart : {g h : Settings} {s₁ s₂ t₁ t₂ : List ℕ} (r t : Creation) → Created g s₁ r s₂ → Created h t₁ t t₂
       → code_of (created_says r) ≡ code_of (created_says t) → r ≡ t
-  pub called-apart : (r t : Ran) → code_of (ran_says r) ≡ code_of (ran_says t) → detail_in (ran_says r) ≡ detail_in (ran_says t) → r ≡ t
+  pub called_apart : (r t : Ran) → code_of (ran_says r) ≡ code_of (ran_says t) → detail_in (ran_says r) ≡ detail_in (ran_says t) → r ≡ t
   -- a fresh store never counts as damaged, nor does one that an accepted call or a feed left; nor is the record that a feed left ever one that no
   -- feed could have left
-  pub created-intact : {capacity : ℕ} {small ghost : Float} {s s' : List ℕ} → CreatedAs capacity small ghost s (pos 0) s' → ReadsAs s' damaged → ⊥
-  pub called-intact : {s q p s' p' : List ℕ} {n d : ℕ} → CalledAs s q p (pos n) d s' p' → ReadsAs s' damaged → ⊥
-  pub fed-intact : {s c q p s' c' p' : List ℕ} {m : ℤ} {n d : ℕ} → FedWith s c q p m n d s' c' p' → (Negative m → m ≡ nine) → ReadsAs s' damaged → ⊥
-  pub fed-fit : {s c q p s' c' p' : List ℕ} {m : ℤ} {n d : ℕ} → FedWith s c q p m n d s' c' p' → (Negative m → m ≡ nine) → ReadsCarry c' unfit → ⊥
+  pub created_intact : {capacity : ℕ} {small ghost : Float} {s s' : List ℕ} → CreatedAs capacity small ghost s (pos 0) s' → ReadsAs s' damaged → ⊥
+  pub called_intact : {s q p s' p' : List ℕ} {n d : ℕ} → CalledAs s q p (pos n) d s' p' → ReadsAs s' damaged → ⊥
+  pub fed_intact : {s c q p s' c' p' : List ℕ} {m : ℤ} {n d : ℕ} → FedWith s c q p m n d s' c' p' → (Negative m → m ≡ nine) → ReadsAs s' damaged → ⊥
+  pub fed_fit : {s c q p s' c' p' : List ℕ} {m : ℤ} {n d : ℕ} → FedWith s c q p m n d s' c' p' → (Negative m → m ≡ nine) → ReadsCarry c' unfit → ⊥
   -- a creation starts a chain, an accepted call adds its requests and its reply bytes, a refused one leaves it as it is
-  pub chain-starts : {capacity : ℕ} {small ghost : Float} {s s' : List ℕ} → CreatedAs capacity small ghost s (pos 0) s'
+  pub chain_starts : {capacity : ℕ} {small ghost : Float} {s s' : List ℕ} → CreatedAs capacity small ghost s (pos 0) s'
       → Chain s' (empty_at (limits_for capacity small ghost)) [] []
   pub chain_grows : {s q p s' p' : List ℕ} {n d : ℕ} {σ₀ : State} {rs : List Request} {bs : List ℕ} → Chain s σ₀ rs bs → Bytes q
       → CalledAs s q p (pos n) d s' p' → Chain s' σ₀ (rs ++ (parse q).requests) (bs ++ take n p')
-  pub chain-stays : {s q p s' p' : List ℕ} {m : ℤ} {d : ℕ} {σ₀ : State} {rs : List Request} {bs : List ℕ} → Chain s σ₀ rs bs → CalledAs s q p m d s' p'
+  pub chain_stays : {s q p s' p' : List ℕ} {m : ℤ} {d : ℕ} {σ₀ : State} {rs : List Request} {bs : List ℕ} → Chain s σ₀ rs bs → CalledAs s q p m d s' p'
       → Negative m → Chain s' σ₀ rs bs
   -- a feed adds the requests that it carried out and so many reply bytes as it says, whatever its code; one that is turned away adds none
-  pub chain-feeds : {s c q p s' c' p' : List ℕ} {m : ℤ} {n d : ℕ} {σ₀ : State} {rs : List Request} {bs : List ℕ} → Chain s σ₀ rs bs → Bytes c → Bytes q
+  pub chain_feeds : {s c q p s' c' p' : List ℕ} {m : ℤ} {n d : ℕ} {σ₀ : State} {rs : List Request} {bs : List ℕ} → Chain s σ₀ rs bs → Bytes c → Bytes q
       → (f : FedWith s c q p m n d s' c' p')
       → Chain s' σ₀ (rs ++ carried_out (fed_says f.answer) (completed_of f.fed.carry q)) (bs ++ take n p')
   -- where a stream is cut makes no difference, and one that is fed and finished gives what one call on the whole gives

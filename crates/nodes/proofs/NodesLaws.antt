@@ -38,10 +38,10 @@ module _ (z : Shape) (s : List ℕ) (room : Room z s) where
   at f = get_or (layout z) f (end z)
 
   abbrev ok : Each (Spaced (end z)) (end z) (layout z)
-  ok = fit z room.some-room room.some-buckets
+  ok = fit z room.some_room room.some_buckets
 
   abbrev in_order : InOrder (end z) (layout z)
-  in_order = order z room.some-room room.some-buckets
+  in_order = order z room.some_room room.some_buckets
 
   view-put : (f i v : ℕ) → i < (at f).rows → v < 256 ^ (at f).width → (g : ℕ)
       → view (put_cell (at f) s i v) g ≡ pick (eqb f g) (set (view s g) i v) (view s g)
@@ -101,4 +101,4 @@ cols-rest z s = refl
 -- a store of the same length has room too
 pub room-kept : {z : Shape} {s t : List ℕ} → Room z s → length t ≡ length s → Room z t
 room-kept r e =
-    record { some-room = r.some-room; some-buckets = r.some-buckets; few = r.few; few-buckets = r.few-buckets; fits = rw e r.fits }
+    record { some_room = r.some_room; some_buckets = r.some_buckets; few = r.few; few_buckets = r.few_buckets; fits = rw e r.fits }

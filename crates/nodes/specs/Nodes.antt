@@ -81,10 +81,10 @@ too_many_buckets = 4294967296
 
 -- what every function asks of a store: there are nodes and buckets, two bytes number the nodes, and the bytes are there
 pub record Room (z : Shape) (s : List ℕ) : Type 0 where
-  pub some-room : 1 ≤ z.room
-  pub some-buckets : 1 ≤ z.buckets
+  pub some_room : 1 ≤ z.room
+  pub some_buckets : 1 ≤ z.buckets
   pub few : z.room + 4 < 65536
-  pub few-buckets : z.buckets < too_many_buckets
+  pub few_buckets : z.buckets < too_many_buckets
   pub fits : used z ≤ length s
 
 -- v was written to cell i of f, and nothing else changed

@@ -102,6 +102,6 @@ module _ {z : Shape} {s : List ℕ} {t k : ℕ} (q : CanFill z s t k) {x : ℕ} 
           keys = m.untouched.keys ∙ rw e.columns (entered-keys e.joins v);
           values = m.untouched.values ∙ rw e.columns (entered-values e.joins v);
           freqs = m.untouched.freqs ∙ rw e.columns (entered-freqs e.joins v);
-          aside = record { limits = λ i b. m.untouched.heads-below i b ∙ a.limits i b; rest = m.untouched.rest ∙ a.rest };
+          aside = record { limits = λ i b. m.untouched.heads_below i b ∙ a.limits i b; rest = m.untouched.rest ∙ a.rest };
           carries = r;
         }

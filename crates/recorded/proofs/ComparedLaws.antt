@@ -61,7 +61,7 @@ pub same-decides : {a b : List ℕ} {r : Bool} → (r ≡ true → a ≡ b) × (
 same-decides {a} {b} {r} e = record { holds = e.0; fails = λ f q. let t = e.1 q in let z : ◌≡◌ {A = ℕ} 0 1 = cc in absurd (omega arith) }
 
 pub from-short : (a b : List ℕ) (from : ℕ) → length a < from → Decides (SameFrom a b from) false
-from-short a b from h = refuse (λ q. let k = q.in-a in omega arith)
+from-short a b from h = refuse (λ q. let k = q.in_a in omega arith)
 
 pub from_shorter : (a b : List ℕ) (from : ℕ) → length b < from → Decides (SameFrom a b from) false
 from_shorter a b from h = refuse (λ q. let k = q.in_b in omega arith)
@@ -73,7 +73,7 @@ rest s at = take_all (length s - at) (drop at s) (simp length-drop (omega arith)
 pub from-rest : (a b : List ℕ) (from : ℕ) {r : Bool} → from ≤ length a → from ≤ length b
     → Decides (take (length a - from) (drop from a) ≡ take (length b - from) (drop from b)) r → Decides (SameFrom a b from) r
 from-rest a b from h k d =
-    decides_map (λ e. record { in-a = h; in_b = k; same = sym (rest a from) ∙ e ∙ rest b from })
+    decides_map (λ e. record { in_a = h; in_b = k; same = sym (rest a from) ∙ e ∙ rest b from })
     (λ q. rest a from ∙ q.same ∙ sym (rest b from)) d
 
 -- ---- what a call wrote
@@ -136,10 +136,10 @@ module _ {t : Told} {number : ℕ} where
     answered-other n = refuse (λ c. n c.number_is)
 
     pub answered-detail : (t.detail ≡ detail → ⊥) → Decides (AnsweredAs number detail count t) false
-    answered-detail n = refuse (λ c. n c.detail-is)
+    answered-detail n = refuse (λ c. n c.detail_is)
 
     pub answered-count : t.number ≡ number → t.detail ≡ detail → Decides (AnsweredAs number detail count t) (eqb t.count count)
-    answered-count e f = decides_eq t.count count (λ g. record { number_is = e; detail-is = f; count-is = g }) (λ c. c.count-is)
+    answered-count e f = decides_eq t.count count (λ g. record { number_is = e; detail_is = f; count_is = g }) (λ c. c.count_is)
 
 module _ {s : Step} {output : List ℕ} {t : Told} {out before store : List ℕ} {a : Bool}
     (d : Decides (AnsweredAs s.number s.detail (length output) t) a) where

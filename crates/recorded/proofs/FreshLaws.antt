@@ -125,13 +125,13 @@ answer_decides (done τ bs) a t s s' p' out w room f e o c =
     let told : t ≡ told_of (gave (length bs)) = e ∙ ap told_of f.0 in
     let b : out ≡ bs ++ replicate (room - length bs) unwritten = o ∙ f.2 ∙ ap (λ (x : List ℕ). bs ++ x) (drop-blank (length bs) room unwritten) in
     decides_map
-    (λ g. record { state = τ; is = ap (done τ) (written_is bs w out room b (sym (ap (λ (x : Told). x.count) told) ∙ g.answer.count-is) g.replies) })
+    (λ g. record { state = τ; is = ap (done τ) (written_is bs w out room b (sym (ap (λ (x : Told). x.count) told) ∙ g.answer.count_is) g.replies) })
     (λ g. let e' = g.is in let q : bs ≡ w = cc in
     record {
       answer = record {
         number_is = ap (λ (x : Told). x.number) told;
-        detail-is = ap (λ (x : Told). x.detail) told;
-        count-is = ap (λ (x : Told). x.count) told ∙ ap (λ (x : List ℕ). length x) q;
+        detail_is = ap (λ (x : Told). x.detail) told;
+        count_is = ap (λ (x : Told). x.count) told ∙ ap (λ (x : List ℕ). length x) q;
       };
       replies = subst (λ (x : List ℕ). WroteOnly out x) q (wrote-is bs out room b);
     })

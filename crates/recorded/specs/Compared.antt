@@ -15,7 +15,7 @@ pub record AllAre (s : List ℕ) (b : ℕ) : Type 0 where
 
 -- a and b reach to a place, and are the same from there on
 pub record SameFrom (a b : List ℕ) (from : ℕ) : Type 0 where
-  pub in-a : from ≤ length a
+  pub in_a : from ≤ length a
   pub in_b : from ≤ length b
   pub same : drop from a ≡ drop from b
 
@@ -35,8 +35,8 @@ pub record CreatedAsWritten (number : ℕ) (t : Told) (before store : List ℕ) 
 -- an answer has the number, the detail and so many bytes
 pub record AnsweredAs (number detail count : ℕ) (t : Told) : Type 0 where
   pub number_is : t.number ≡ number
-  pub detail-is : t.detail ≡ detail
-  pub count-is : t.count ≡ count
+  pub detail_is : t.detail ≡ detail
+  pub count_is : t.count ≡ count
 
 -- a call answered as the step says, wrote the output and nothing else, and kept what it should
 pub record RanAsWritten (s : Step) (output : List ℕ) (t : Told) (out before store : List ℕ) : Type 0 where

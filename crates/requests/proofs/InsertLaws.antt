@@ -56,7 +56,7 @@ module _ {z : Shape} {s s₁ : List ℕ} {w : Evicted·} (h : Held z s) (m : Mak
         few = omega (
           arith,
           ap (λ (σ : State). length σ.ghosts) e,
-          kept.ghosts-fit h.sound.few-ghosts,
+          kept.ghosts-fit h.sound.few_ghosts,
           ap (λ (L : Limits). L.ghost_limit) limits,
         );
       }
@@ -86,7 +86,7 @@ module _ {z : Shape} {s : List ℕ} {k : ℕ} {r : Lookup} (l : Looks z s k r) w
   module _ {x : ℕ} (e : r ≡ Ghost x) where
     off : remove_ghost k (state_in z s).ghosts ≡ record { ghosts = (l.is_ghost x e).before ++ (l.is_ghost x e).after; was = true }
     unfolding remove_ghost
-    off = ap (without (state_in z s).ghosts) (l.is_ghost x e).split-is
+    off = ap (without (state_in z s).ghosts) (l.is_ghost x e).split_is
 
     module _ {s₁ : List ℕ} (m : GhostRemoved z s s₁ x) where
       fell : Becomes z s s₁ (set_ghosts ((l.is_ghost x e).before ++ (l.is_ghost x e).after) (state_in z s))

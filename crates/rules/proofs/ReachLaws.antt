@@ -120,7 +120,7 @@ least = record { capacity = 1; small_limit = 0; ghost_limit = 0 }
 
 least-sound : Sound (empty_at least)
 unfolding least
-least-sound = empty-sound least (record { some-room = omega arith; capacity-fits = omega arith; small-fits = omega arith; ghost_fits = omega arith })
+least-sound = empty-sound least (record { some_room = omega arith; capacity_fits = omega arith; small_fits = omega arith; ghost_fits = omega arith })
 
 abbrev waiting : ℕ → List ℕ → Carry
 waiting o l = record { offset = o; kept = l; stopped = false }

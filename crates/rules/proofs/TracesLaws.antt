@@ -9,4 +9,4 @@ use Rattle.rules.specs.Traces.{Rows}
 
 pub rows : Rows
 unfolding sizing_up_to round neg mul of_int create call all_written
-rows = record { sizing-rows = refl; trace_rows = refl }
+rows = record { sizing_rows = refl; trace_rows = refl }

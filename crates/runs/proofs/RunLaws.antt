@@ -59,8 +59,8 @@ module _ (w : Pushed) {k : GuestBlock} {v : PhysicalBlock} where
   pub put-main : w ≡ FromMain k v → {p p' : List ℕ} {i m : ℕ} → Wrote p i (encode (EM k.0 v.0)) p' m → Wrote p i (encode_all (pushed_of w)) p' m
   put-main e h = rw (e, encode_one (EM k.0 v.0)) h
 
-  pub small-fits : w ≡ FromSmall k v → {n : ℕ} (i : ℕ) → i + length (encode_all (pushed_of w)) ≤ n → i + length (encode (ES k.0 v.0)) ≤ n
-  small-fits e i h = rw (e, encode_one (ES k.0 v.0)) at h
+  pub small_fits : w ≡ FromSmall k v → {n : ℕ} (i : ℕ) → i + length (encode_all (pushed_of w)) ≤ n → i + length (encode (ES k.0 v.0)) ≤ n
+  small_fits e i h = rw (e, encode_one (ES k.0 v.0)) at h
 
   pub main-fits : w ≡ FromMain k v → {n : ℕ} (i : ℕ) → i + length (encode_all (pushed_of w)) ≤ n → i + length (encode (EM k.0 v.0)) ≤ n
   main-fits e i h = rw (e, encode_one (EM k.0 v.0)) at h

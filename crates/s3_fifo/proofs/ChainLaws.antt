@@ -68,9 +68,9 @@ module _ (n : ℕ) (s s' p p' : List ℕ) where
       (row-false r.when r.why (unless rows v) h, rows_all rows v (row-passed r.when r.why (unless rows v) h))
 
 -- one that is leaves the store as it was
-refused-same : (v : Verdict State) (n d : ℕ) (a : Said) (s s' p p' : List ℕ) → Follows v a s s' p p' → a ≡ turned n d → s' ≡ s
-refused-same (turned_away_by m e) n d a s s' p p' h r = h.1
-refused-same (done σ bs) n d a s s' p p' h r = absurd (gave_not (sym h.0 ∙ r))
+refused_same : (v : Verdict State) (n d : ℕ) (a : Said) (s s' p p' : List ℕ) → Follows v a s s' p p' → a ≡ turned n d → s' ≡ s
+refused_same (turned_away_by m e) n d a s s' p p' h r = h.1
+refused_same (done σ bs) n d a s s' p p' h r = absurd (gave_not (sym h.0 ∙ r))
 
 -- ---- creation
 
@@ -154,8 +154,8 @@ whole-served {s} {q} {p} {s'} {p'} {n} c = whole-on s q p s' p' n c.store c.stor
 
 -- ---- what an accepted call leaves never counts as damaged
 
-pub created-intact : {settings : Settings} {s s' : List ℕ} → Created settings s Made s' → ReadsAs s' damaged → ⊥
-created-intact {settings} c d = d.1 (empty_at (limits_made settings)) (begun c).holds
+pub created_intact : {settings : Settings} {s s' : List ℕ} → Created settings s Made s' → ReadsAs s' damaged → ⊥
+created_intact {settings} c d = d.1 (empty_at (limits_made settings)) (begun c).holds
 
 intact : (s q p s' p' : List ℕ) (n : ℕ) (x : Reads) → (AllPeeks (parse q).requests → s' ≡ s) → ReadsAs s x → Follows (call x q (length p)) (gave n) s s' p p'
     → ReadsAs s' damaged → ⊥
@@ -166,8 +166,8 @@ intact s q p s' p' n (reads σ) u h l d =
     let c : Called s q p (Done n) s' p' = record { store = reads σ; store_is = h; leaves = l; untouched = u } in
     d.1 (run σ (parse q).requests).state (served h.1 h.0 c).0.holds
 
-pub called-intact : {s q p s' p' : List ℕ} {n : ℕ} → Called s q p (Done n) s' p' → ReadsAs s' damaged → ⊥
-called-intact {s} {q} {p} {s'} {p'} {n} c d = intact s q p s' p' n c.store c.untouched c.store_is c.leaves d
+pub called_intact : {s q p s' p' : List ℕ} {n : ℕ} → Called s q p (Done n) s' p' → ReadsAs s' damaged → ⊥
+called_intact {s} {q} {p} {s'} {p'} {n} c d = intact s q p s' p' n c.store c.untouched c.store_is c.leaves d
 
 -- ---- the chain
 
@@ -210,10 +210,10 @@ module _ {s c q p s' c' p' : List ℕ} {r : Fed} (f : FedAs s c q p r s' c' p') 
       let k = l.carry in
       let σ : State = (run σ₀ rs).state in
       let n : ℕ = replies_in (fed_says r) in
-      let x : CarryAs c k = subst (ReadsCarry c) l.carry-is f.carry-is in
+      let x : CarryAs c k = subst (ReadsCarry c) l.carry_is f.carry_is in
       let w = (goes_on r g.holds g.long x f t).went in
       let e : feed_on σ k q ≡ flow (feed_on σ k q).carry (run σ (completed_of (carries k) q)) = feed-runs σ k q in
-      subst (λ (y : Carried). Grown s' σ₀ (rs ++ completed_of y q) (bs ++ take n p')) (sym l.carry-is)
+      subst (λ (y : Carried). Grown s' σ₀ (rs ++ completed_of y q) (bs ++ take n p')) (sym l.carry_is)
       (grow (completed_of (carries k) q) g (fed-narrow q k x b d)
       (subst (Holds s') (ap (λ (y : Flow). y.state) e) w.holds)
       (w.told ∙ ap (λ (y : Flow). encode_all y.replies) e)
@@ -245,11 +245,11 @@ grown (start {settings = settings} c) =
     let b = begun c in record { sound = empty-sound (limits_made settings) b.fine; narrow = tt; holds = b.holds; told = refl; long = b.long }
 grown (accepted h b c) = grow-called (grown h) b c
 grown (refused {s = s} {q = q} {p = p} {s' = s'} {p' = p'} {r = r} {σ₀ = σ₀} {rs = rs} {bs = bs} n d h c e) =
-    subst (λ (x : List ℕ). Grown x σ₀ rs bs) (sym (refused-same (call c.store q (length p)) n d (ran_says r) s s' p p' c.leaves e)) (grown h)
+    subst (λ (x : List ℕ). Grown x σ₀ rs bs) (sym (refused_same (call c.store q (length p)) n d (ran_says r) s s' p p' c.leaves e)) (grown h)
 grown (fed {r = r} h b d f) = grow-either r f (grown h) b d (fed_says r) refl
 
-pub chain-keeps : {s : List ℕ} {σ₀ : State} {rs : List Request} {bs : List ℕ} → Chain s σ₀ rs bs → Kept s σ₀ rs bs
-chain-keeps {s} {σ₀} {rs} {bs} c =
+pub chain_keeps : {s : List ℕ} {σ₀ : State} {rs : List Request} {bs : List ℕ} → Chain s σ₀ rs bs → Kept s σ₀ rs bs
+chain_keeps {s} {σ₀} {rs} {bs} c =
     let g = grown c in
     let r : ReadAs rs bs (history σ₀ rs) = rw g.told (history-read σ₀ rs g.sound g.narrow) in
     record { grown = g; read = r; only = λ h k. reading-once k r; demand = demand_3_run σ₀ rs g.sound g.narrow }
@@ -265,14 +265,14 @@ told-within σ a r b =
     ∙ encode-append (run σ a).replies ((apply τ r).replies ++ (run (apply τ r).state b).replies)
     ∙ ap (λ (l : List ℕ). encode_all (run σ a).replies ++ l) (encode-append (apply τ r).replies (run (apply τ r).state b).replies)
 
-pub full-within : (a : List Request) (k v : ℕ) (b : List Request) {s bs : List ℕ} {σ₀ : State} {rs : List Request} → Chain s σ₀ rs bs
+pub full_within : (a : List Request) (k v : ℕ) (b : List Request) {s bs : List ℕ} {σ₀ : State} {rs : List Request} → Chain s σ₀ rs bs
     → rs ≡ a ++ IN k v ∷ b → FullWithin σ₀ a k v b bs
-full-within a k v b {s} {bs} {σ₀} {rs} c e =
+full_within a k v b {s} {bs} {σ₀} {rs} c e =
     let g = grown c in
     let z : AllNarrow (a ++ IN k v ∷ b) = subst AllNarrow e g.narrow in
     record {
       before = (run σ₀ a).state;
-      before-is = refl;
+      before_is = refl;
       full = (demand_3_run σ₀ a g.sound (every-left Narrow a (IN k v ∷ b) z)).full k v;
       told = g.told ∙ ap (λ (l : List Request). encode_all (run σ₀ l).replies) e ∙ told-within σ₀ a (IN k v) b;
     }

@@ -40,7 +40,7 @@ use Rattle.s3_fifo.specs.Feeds.{FedAs, verdict_says, FinishAs}
 pub fed-short : {s : List ℕ} → length s < store_bytes → (c q p : List ℕ) → {r : Brought} → Brings c r → FedAs s c q p (Refused ShortStore) s c p
 unfolding feed
 fed-short h c q p {r} b =
-    record { store = short; store_is = h; carry = carried_by c r; carry-is = b.is; leaves = (refl, refl, refl, refl); untouched = λ u. refl }
+    record { store = short; store_is = h; carry = carried_by c r; carry_is = b.is; leaves = (refl, refl, refl, refl); untouched = λ u. refl }
 
 pub fed-damaged : {s : List ℕ} → store_bytes ≤ length s → {k : Checked} → Checks s k → k ≡ Damaged → (c q p : List ℕ) → {r : Brought} → Brings c r
     → FedAs s c q p (Refused DamagedStore) s c p
@@ -50,7 +50,7 @@ fed-damaged l a e c q p {r} b =
       store = damaged;
       store_is = (l, a.damaged e);
       carry = carried_by c r;
-      carry-is = b.is;
+      carry_is = b.is;
       leaves = (refl, refl, refl, refl);
       untouched = λ u. refl;
     }
@@ -65,7 +65,7 @@ module _ {z : Shape} {s : List ℕ} (l : store_bytes ≤ length s) (h : Held z s
         store = reads (state_in z s);
         store_is = (l, held-holds h);
         carry = unfit;
-        carry-is = rw e at b.is;
+        carry_is = rw e at b.is;
         leaves = (refl, refl, refl, refl);
         untouched = λ u. refl;
       }
@@ -82,7 +82,7 @@ module _ {z : Shape} {s : List ℕ} (l : store_bytes ≤ length s) (h : Held z s
           store = reads (state_in z s);
           store_is = (l, held-holds h);
           carry = carries stopped-at;
-          carry-is = rw e at b.is;
+          carry_is = rw e at b.is;
           leaves = rw (lt-ltb most_request_bytes (length q) m) (refl, refl, refl, refl);
           untouched = λ u. refl;
         }
@@ -94,7 +94,7 @@ module _ {z : Shape} {s : List ℕ} (l : store_bytes ≤ length s) (h : Held z s
           store = reads (state_in z s);
           store_is = (l, held-holds h);
           carry = carries stopped-at;
-          carry-is = rw e at b.is;
+          carry_is = rw e at b.is;
           leaves = rw (le-ltb most_request_bytes (length q) m) (refl, refl, refl, refl);
           untouched = λ u. refl;
         }
@@ -119,7 +119,7 @@ module _ {z : Shape} {s : List ℕ} (l : store_bytes ≤ length s) (h : Held z s
           store = reads (state_in z s);
           store_is = (l, held-holds h);
           carry = carries going;
-          carry-is = going_brings.is;
+          carry_is = going_brings.is;
           leaves = rw (lt-ltb last_offset (o + length (kept_in c n) + length q) (omega arith)) (refl, refl, refl, refl);
           untouched = λ u. refl;
         }
@@ -138,7 +138,7 @@ module _ {z : Shape} {s : List ℕ} (l : store_bytes ≤ length s) (h : Held z s
             store = reads (state_in z s);
             store_is = (l, held-holds h);
             carry = carries going;
-            carry-is = going_brings.is;
+            carry_is = going_brings.is;
             leaves = rw (le-ltb last_offset (o + length (kept_in c n) + length q) fits, lt-ltb most_request_bytes (length q) m) (refl, refl, refl, refl);
             untouched = λ u. refl;
           }
@@ -158,7 +158,7 @@ module _ {z : Shape} {s : List ℕ} (l : store_bytes ≤ length s) (h : Held z s
               store = reads (state_in z s);
               store_is = (l, held-holds h);
               carry = carries going;
-              carry-is = going_brings.is;
+              carry_is = going_brings.is;
               leaves = rw (
                 le-ltb last_offset (o + length (kept_in c n) + length q) fits,
                 le-ltb most_request_bytes (length q) few,
@@ -174,7 +174,7 @@ module _ {z : Shape} {s : List ℕ} (l : store_bytes ≤ length s) (h : Held z s
               store = reads (state_in z s);
               store_is = (l, held-holds h);
               carry = carries going;
-              carry-is = going_brings.is;
+              carry_is = going_brings.is;
               leaves = rw (
                 le-ltb last_offset (o + length (kept_in c n) + length q) fits,
                 le-ltb most_request_bytes (length q) few,
@@ -191,7 +191,7 @@ module _ {z : Shape} {s : List ℕ} (l : store_bytes ≤ length s) (h : Held z s
               store = reads (state_in z s);
               store_is = (l, held-holds h);
               carry = carries going;
-              carry-is = going_brings.is;
+              carry_is = going_brings.is;
               leaves = rw (
                 le-ltb last_offset (o + length (kept_in c n) + length q) fits,
                 le-ltb most_request_bytes (length q) few,
@@ -210,10 +210,10 @@ positive (suc n) d = omega arith
 
 module _ {c : List ℕ} {r : Brought} (b : Brings c r) where
   pub finish-unfit : r ≡ Unfit → FinishAs c (Broken BadCarry)
-  finish-unfit e = record { carry = unfit; carry-is = rw e at b.is; says = refl }
+  finish-unfit e = record { carry = unfit; carry_is = rw e at b.is; says = refl }
 
   pub finish-stopped : {i : ℕ} → r ≡ Halted i → FinishAs c (Broken (BadRecord i))
-  finish-stopped {i} e = record { carry = carries (record { offset = i; kept = []; stopped = true }); carry-is = rw e at b.is; says = refl }
+  finish-stopped {i} e = record { carry = carries (record { offset = i; kept = []; stopped = true }); carry_is = rw e at b.is; says = refl }
 
   module _ {o n : ℕ} (e : r ≡ Going o n) where
     here : Brings c (Going o n)
@@ -224,7 +224,7 @@ module _ {c : List ℕ} {r : Brought} (b : Brings c r) where
         let k = lent.going_kept here refl in
         record {
           carry = carries (record { offset = o; kept = kept_in c n; stopped = false });
-          carry-is = here.is;
+          carry_is = here.is;
           says = rw (some-kept (kept_in c n) (positive (length (kept_in c n)) (λ q. d (sym k ∙ q)))) refl;
         }
 
@@ -232,6 +232,6 @@ module _ {c : List ℕ} {r : Brought} (b : Brings c r) where
     finish-complete d =
         record {
           carry = carries (record { offset = o; kept = kept_in c n; stopped = false });
-          carry-is = here.is;
+          carry_is = here.is;
           says = ap (λ (i : ℕ). verdict_says (finish_on (carries (record { offset = o; kept = take i (drop 10 c); stopped = false })))) (sym d);
         }

@@ -81,7 +81,7 @@ alike-holds {s₁} {s₂} a b e =
     record { holds = λ σ h. subst (Holds s₂) (holds-once a h) b; back = λ σ h. subst (Holds s₁) (holds-once b h) a; same_length = e }
 
 agrees_self : (a : Said) (s : List ℕ) → Agrees a s s
-agrees_self a s = record { refused-same = λ n d e. refl; alike = alike_self s; surplus = λ σ h. refl }
+agrees_self a s = record { refused_same = λ n d e. refl; alike = alike_self s; surplus = λ σ h. refl }
 
 -- an answer that is no refusal
 abbrev Kind : Said → Type 0
@@ -92,7 +92,7 @@ Kind (turned n d) = ⊥
 settled_agrees : {s s₁ s₂ : List ℕ} {τ : State} (a : Said) → Kind a → Settled s s₁ τ → Settled s s₂ τ → Agrees a s₁ s₂
 settled_agrees {s} {s₁} {s₂} {τ} x k a b =
     record {
-      refused-same = λ n d e. absurd (subst Kind e k);
+      refused_same = λ n d e. absurd (subst Kind e k);
       alike = alike-holds a.holds b.holds (a.same_length ∙ sym b.same_length);
       surplus = λ σ h. subst
           (λ (ρ : State). drop (used (shape_for ρ.limits)) s₁ ≡ drop (used (shape_for ρ.limits)) s₂)
@@ -110,14 +110,14 @@ follows_once (done σ bs) a b s s₁ s₂ p p₁ p₂ h g =
 
 -- ---- a creation and a call
 
-pub created-once : {settings : Settings} {s s₁ s₂ : List ℕ} (r t : Creation) → Created settings s r s₁ → Created settings s t s₂ → OneCreation r t s₁ s₂
-created-once {settings} {s} {s₁} {s₂} r t c d =
+pub created_once : {settings : Settings} {s s₁ s₂ : List ℕ} (r t : Creation) → Created settings s r s₁ → Created settings s t s₂ → OneCreation r t s₁ s₂
+created_once {settings} {s} {s₁} {s₂} r t c d =
     let v = create settings.capacity settings.small_ratio settings.ghost_ratio (length s) in
     let l = follows_once v (created_says r) (created_says t) s s₁ s₂ [] [] [] c.leaves d.leaves in
     record { answer = creation-once r t l.0; stores = l.2 }
 
-pub called-once : {s q p s₁ s₂ p₁ p₂ : List ℕ} (r t : Ran) → Called s q p r s₁ p₁ → Called s q p t s₂ p₂ → OneCall r t s₁ s₂ p₁ p₂
-called-once {s} {q} {p} {s₁} {s₂} {p₁} {p₂} r t c d =
+pub called_once : {s q p s₁ s₂ p₁ p₂ : List ℕ} (r t : Ran) → Called s q p r s₁ p₁ → Called s q p t s₂ p₂ → OneCall r t s₁ s₂ p₁ p₂
+called_once {s} {q} {p} {s₁} {s₂} {p₁} {p₂} r t c d =
     let e : c.store ≡ d.store = reads-once s c.store d.store c.store_is d.store_is in
     let f : Follows (call d.store q (length p)) (ran_says r) s s₁ p p₁ =
     subst (λ (x : Reads). Follows (call x q (length p)) (ran_says r) s s₁ p p₁) e c.leaves in
@@ -179,17 +179,17 @@ pub fed-on : {s c q p s' c' p' : List ℕ} {r : Fed} (x : Reads) (k : Carried) �
     → FollowsFeed (feed x k q (length p)) (fed_says r) s s' c c' p p'
 fed-on {s} {c} {q} {p} {s'} {c'} {p'} {r} x k h g f =
     let d : f.store ≡ x = reads-once s f.store x f.store_is h in
-    let e : f.carry ≡ k = carried-once c f.carry k f.carry-is g in
+    let e : f.carry ≡ k = carried-once c f.carry k f.carry_is g in
     subst (λ (y : Reads). FollowsFeed (feed y k q (length p)) (fed_says r) s s' c c' p p') d
     (subst (λ (l : Carried). FollowsFeed (feed f.store l q (length p)) (fed_says r) s s' c c' p p') e f.leaves)
 
-pub fed-once : {s c q p s₁ s₂ c₁ c₂ p₁ p₂ : List ℕ} (r t : Fed) → FedAs s c q p r s₁ c₁ p₁ → FedAs s c q p t s₂ c₂ p₂ → OneFeed r t s₁ s₂ c₁ c₂ p₁ p₂
-fed-once {s} {c} {q} {p} {s₁} {s₂} {c₁} {c₂} {p₁} {p₂} r t f g =
+pub fed_once : {s c q p s₁ s₂ c₁ c₂ p₁ p₂ : List ℕ} (r t : Fed) → FedAs s c q p r s₁ c₁ p₁ → FedAs s c q p t s₂ c₂ p₂ → OneFeed r t s₁ s₂ c₁ c₂ p₁ p₂
+fed_once {s} {c} {q} {p} {s₁} {s₂} {c₁} {c₂} {p₁} {p₂} r t f g =
     let v = feed g.store g.carry q (length p) in
-    let l = follows_feed-once v (fed_says r) (fed_says t) s s₁ s₂ c c₁ c₂ p p₁ p₂ (fed-on g.store g.carry g.store_is g.carry-is f) g.leaves in
+    let l = follows_feed-once v (fed_says r) (fed_says t) s s₁ s₂ c c₁ c₂ p p₁ p₂ (fed-on g.store g.carry g.store_is g.carry_is f) g.leaves in
     record { answer = fed-says-once r t l.0; carries = l.1; replies = l.2; stores = l.3 }
 
-pub finished-once : {c : List ℕ} (r t : Finish) → FinishAs c r → FinishAs c t → r ≡ t
-finished-once {c} r t f g =
+pub finished_once : {c : List ℕ} (r t : Finish) → FinishAs c r → FinishAs c t → r ≡ t
+finished_once {c} r t f g =
     finish-says-once r t
-    (f.says ∙ ap (λ (k : Carried). verdict_says (finish_on k)) (carried-once c f.carry g.carry f.carry-is g.carry-is) ∙ sym g.says)
+    (f.says ∙ ap (λ (k : Carried). verdict_says (finish_on k)) (carried-once c f.carry g.carry f.carry_is g.carry_is) ∙ sym g.says)

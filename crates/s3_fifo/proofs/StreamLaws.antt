@@ -87,7 +87,7 @@ set-off : {s c q bs s' c' : List ℕ} {ps : List (List ℕ)} → Stream s c (q �
 set-off {s} {c} (feeds {r = r} f g t) =
     let l = goes-lent r f g in
     let y : ReadsAs s (reads l.state) = subst (ReadsAs s) l.store_is f.store_is in
-    record { state = l.state; carry = l.carry; holds = y.1; long = y.0; carried = subst (ReadsCarry c) l.carry-is f.carry-is }
+    record { state = l.state; carry = l.carry; holds = y.1; long = y.0; carried = subst (ReadsCarry c) l.carry_is f.carry_is }
 
 pub cut_anywhere : {s c bs₁ bs₂ s₁ s₂ c₁ c₂ : List ℕ} (ps qs : List (List ℕ)) → Stream s c ps bs₁ s₁ c₁ → Stream s c qs bs₂ s₂ c₂ → glued ps ≡ glued qs
     → OneStream bs₁ bs₂ s₁ s₂ c₁ c₂
@@ -103,12 +103,12 @@ says_on : {s c bs s' c' : List ℕ} (ps : List (List ℕ)) {σ : State} → Hold
 says_on {c' = c'} ps {σ} h b x t r f =
     let k : Carry = (feed_on σ opening (glued ps)).carry in
     let y : CarryAs c' k = subst (λ (w : Flow). CarryAs c' w.carry) (feed-all σ opening x.could ps) (stream_gives h b x t).next in
-    f.says ∙ ap (λ (d : Carried). verdict_says (finish_on d)) (carried-once c' f.carry (carries k) f.carry-is y) ∙ ap verdict_says (finish-is σ (glued ps))
+    f.says ∙ ap (λ (d : Carried). verdict_says (finish_on d)) (carried-once c' f.carry (carries k) f.carry_is y) ∙ ap verdict_says (finish-is σ (glued ps))
 
 pub finish-says : {s c bs s' c' : List ℕ} (ps : List (List ℕ)) → CarryAs c opening → Stream s c ps bs s' c' → (r : Finish) → FinishAs c' r
     → finish_says r ≡ verdict_says (ended (parse (glued ps)).end)
 unfolding parse parse_from walk
-finish-says {c = c} [] x over r f = f.says ∙ ap (λ (d : Carried). verdict_says (finish_on d)) (carried-once c f.carry (carries opening) f.carry-is x)
+finish-says {c = c} [] x over r f = f.says ∙ ap (λ (d : Carried). verdict_says (finish_on d)) (carried-once c f.carry (carries opening) f.carry_is x)
 finish-says (p ∷ ps) x t r f = let y = set-off t in says_on (p ∷ ps) y.holds y.long x t r f
 
 pub as_one_call : {s c bs s' c' p s₁ p₁ : List ℕ} {n : ℕ} (ps : List (List ℕ)) → CarryAs c opening → Stream s c ps bs s' c'

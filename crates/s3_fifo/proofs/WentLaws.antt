@@ -111,7 +111,7 @@ pub record Lent (x : Reads) (y : Carried) : Type 0 where
   pub state : State
   pub carry : Carry
   pub store_is : x ≡ reads state
-  pub carry-is : y ≡ carries carry
+  pub carry_is : y ≡ carries carry
 
 -- another refusal does not go on
 away : (why : Turned) (a : Said) → (number_of why ≡ 9 → ⊥) → NotTurned a → a ≡ turned (number_of why) (detail_of why) → ⊥
@@ -122,7 +122,7 @@ unfolding feed
 lent s c q p s' c' p' a g short y l = absurd (away ShortStore a (λ e. omega arith) g l.0)
 lent s c q p s' c' p' a g damaged y l = absurd (away DamagedStore a (λ e. omega arith) g l.0)
 lent s c q p s' c' p' a g (reads σ) unfit l = absurd (away BadCarry a (λ e. omega arith) g l.0)
-lent s c q p s' c' p' a g (reads σ) (carries k) l = record { state = σ; carry = k; store_is = refl; carry-is = refl }
+lent s c q p s' c' p' a g (reads σ) (carries k) l = record { state = σ; carry = k; store_is = refl; carry_is = refl }
 
 pub goes-lent : {s c q p s' c' p' : List ℕ} (r : Fed) (f : FedAs s c q p r s' c' p') → NotTurned (fed_says r) → Lent f.store f.carry
 goes-lent {s} {c} {q} {p} {s'} {c'} {p'} r f g = lent s c q p s' c' p' (fed_says r) g f.store f.carry f.leaves
@@ -134,10 +134,10 @@ after : {s c q p s' c' p' : List ℕ} (r : Fed) (f : FedAs s c q p r s' c' p') (
 after {s} {c} r f g =
     let l = goes-lent r f g in
     let y : ReadsAs s (reads l.state) = subst (ReadsAs s) l.store_is f.store_is in
-    goes_on r y.1 y.0 (subst (ReadsCarry c) l.carry-is f.carry-is) f g
+    goes_on r y.1 y.0 (subst (ReadsCarry c) l.carry_is f.carry_is) f g
 
-pub fed-intact : {s c q p s' c' p' : List ℕ} (r : Fed) → FedAs s c q p r s' c' p' → NotTurned (fed_says r) → ReadsAs s' damaged → ⊥
-fed-intact {q = q} r f g d = let l = goes-lent r f g in d.1 (feed_on l.state l.carry q).state (after r f g).went.holds
+pub fed_intact : {s c q p s' c' p' : List ℕ} (r : Fed) → FedAs s c q p r s' c' p' → NotTurned (fed_says r) → ReadsAs s' damaged → ⊥
+fed_intact {q = q} r f g d = let l = goes-lent r f g in d.1 (feed_on l.state l.carry q).state (after r f g).went.holds
 
-pub fed-fit : {s c q p s' c' p' : List ℕ} (r : Fed) → FedAs s c q p r s' c' p' → NotTurned (fed_says r) → ReadsCarry c' unfit → ⊥
-fed-fit {q = q} r f g d = let l = goes-lent r f g in d (feed_on l.state l.carry q).carry (after r f g).next
+pub fed_fit : {s c q p s' c' p' : List ℕ} (r : Fed) → FedAs s c q p r s' c' p' → NotTurned (fed_says r) → ReadsCarry c' unfit → ⊥
+fed_fit {q = q} r f g d = let l = goes-lent r f g in d (feed_on l.state l.carry q).carry (after r f g).next

@@ -59,6 +59,6 @@ pub record Kept (s : List ℕ) (σ₀ : State) (rs : List Request) (bs : List �
 -- was absent and the cache full, and where its replies stand
 pub record FullWithin (σ₀ : State) (a : List Request) (k v : ℕ) (b : List Request) (bs : List ℕ) : Type 0 where
   pub before : State
-  pub before-is : before ≡ (run σ₀ a).state
+  pub before_is : before ≡ (run σ₀ a).state
   pub full : keyed k before ≡ 0 → residents before ≡ before.limits.capacity → FullInsert k v before (apply before (IN k v))
   pub told : bs ≡ encode_all (run σ₀ a).replies ++ (encode_all (apply before (IN k v)).replies ++ encode_all (run (apply before (IN k v)).state b).replies)

@@ -48,7 +48,7 @@ pub record FedAs (s c q p : List ℕ) (r : Fed) (s' c' p' : List ℕ) : Type 0 w
   pub store : Reads
   pub store_is : ReadsAs s store
   pub carry : Carried
-  pub carry-is : ReadsCarry c carry
+  pub carry_is : ReadsCarry c carry
   pub leaves : FollowsFeed (feed store carry q (length p)) (fed_says r) s s' c c' p p'
   pub untouched : AllPeeks (completed_of carry q) → s' ≡ s
 
@@ -60,5 +60,5 @@ verdict_says (done t bs) = gave (length bs)
 -- a finish: the carried record, which it only reads, and the answer
 pub record FinishAs (c : List ℕ) (r : Finish) : Type 0 where
   pub carry : Carried
-  pub carry-is : ReadsCarry c carry
+  pub carry_is : ReadsCarry c carry
   pub says : finish_says r ≡ verdict_says (finish_on carry)

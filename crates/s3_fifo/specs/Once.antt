@@ -18,7 +18,7 @@ pub record SameState (s₁ s₂ : List ℕ) : Type 0 where
 
 -- two stores after an answer: the same bytes where it is a refusal; otherwise they hold the same state, and the same bytes stand behind it
 pub record Agrees (a : Said) (s₁ s₂ : List ℕ) : Type 0 where
-  pub refused-same : (n d : ℕ) → a ≡ turned n d → s₁ ≡ s₂
+  pub refused_same : (n d : ℕ) → a ≡ turned n d → s₁ ≡ s₂
   pub alike : SameState s₁ s₂
   pub surplus : (σ : State) → Holds s₁ σ → drop (used (shape_for σ.limits)) s₁ ≡ drop (used (shape_for σ.limits)) s₂
 

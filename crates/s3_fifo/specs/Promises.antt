@@ -26,16 +26,16 @@ use Rattle.s3_fifo.specs.Chains.{Chain, Kept, FullWithin}
 
 pub record Promises : Type 0 where
   -- demands 1 and 2: a call has one outcome, and after a refusal no byte is another
-  pub created-once : {settings : Settings} {s s₁ s₂ : List ℕ} (r t : Creation) → Created settings s r s₁ → Created settings s t s₂ → OneCreation r t s₁ s₂
-  pub called-once : {s q p s₁ s₂ p₁ p₂ : List ℕ} (r t : Ran) → Called s q p r s₁ p₁ → Called s q p t s₂ p₂ → OneCall r t s₁ s₂ p₁ p₂
-  pub fed-once : {s c q p s₁ s₂ c₁ c₂ p₁ p₂ : List ℕ} (r t : Fed) → FedAs s c q p r s₁ c₁ p₁ → FedAs s c q p t s₂ c₂ p₂ → OneFeed r t s₁ s₂ c₁ c₂ p₁ p₂
-  pub finished-once : {c : List ℕ} (r t : Finish) → FinishAs c r → FinishAs c t → r ≡ t
+  pub created_once : {settings : Settings} {s s₁ s₂ : List ℕ} (r t : Creation) → Created settings s r s₁ → Created settings s t s₂ → OneCreation r t s₁ s₂
+  pub called_once : {s q p s₁ s₂ p₁ p₂ : List ℕ} (r t : Ran) → Called s q p r s₁ p₁ → Called s q p t s₂ p₂ → OneCall r t s₁ s₂ p₁ p₂
+  pub fed_once : {s c q p s₁ s₂ c₁ c₂ p₁ p₂ : List ℕ} (r t : Fed) → FedAs s c q p r s₁ c₁ p₁ → FedAs s c q p t s₂ c₂ p₂ → OneFeed r t s₁ s₂ c₁ c₂ p₁ p₂
+  pub finished_once : {c : List ℕ} (r t : Finish) → FinishAs c r → FinishAs c t → r ≡ t
   -- a fresh store never counts as damaged, nor does one that an accepted call or a feed left; nor is the record that a feed left ever
   -- one that no feed could have left
-  pub created-intact : {settings : Settings} {s s' : List ℕ} → Created settings s Made s' → ReadsAs s' damaged → ⊥
-  pub called-intact : {s q p s' p' : List ℕ} {n : ℕ} → Called s q p (Done n) s' p' → ReadsAs s' damaged → ⊥
-  pub fed-intact : {s c q p s' c' p' : List ℕ} (r : Fed) → FedAs s c q p r s' c' p' → NotTurned (fed_says r) → ReadsAs s' damaged → ⊥
-  pub fed-fit : {s c q p s' c' p' : List ℕ} (r : Fed) → FedAs s c q p r s' c' p' → NotTurned (fed_says r) → ReadsCarry c' unfit → ⊥
+  pub created_intact : {settings : Settings} {s s' : List ℕ} → Created settings s Made s' → ReadsAs s' damaged → ⊥
+  pub called_intact : {s q p s' p' : List ℕ} {n : ℕ} → Called s q p (Done n) s' p' → ReadsAs s' damaged → ⊥
+  pub fed_intact : {s c q p s' c' p' : List ℕ} (r : Fed) → FedAs s c q p r s' c' p' → NotTurned (fed_says r) → ReadsAs s' damaged → ⊥
+  pub fed_fit : {s c q p s' c' p' : List ℕ} (r : Fed) → FedAs s c q p r s' c' p' → NotTurned (fed_says r) → ReadsCarry c' unfit → ⊥
   -- refusal 17 is exact: a record passes its test exactly where accepted feeds leave it
   pub could_reach : (c : Carry) → Bytes c.kept → could_leave c ≡ true → Reached c
   pub reach_could : {c : Carry} → Reached c → could_leave c ≡ true
@@ -48,6 +48,6 @@ pub record Promises : Type 0 where
   pub finish-says : {s c bs s' c' : List ℕ} (ps : List (List ℕ)) → CarryAs c opening → Stream s c ps bs s' c'
       → (r : Finish) → FinishAs c' r → finish_says r ≡ verdict_says (ended (parse (glued ps)).end)
   -- demand 3, over any chain of calls and feeds: the ledger and one place for each key; and the full insert, wherever in the chain it comes
-  pub chain-keeps : {s : List ℕ} {σ₀ : State} {rs : List Request} {bs : List ℕ} → Chain s σ₀ rs bs → Kept s σ₀ rs bs
-  pub full-within : (a : List Request) (k v : ℕ) (b : List Request) {s bs : List ℕ} {σ₀ : State} {rs : List Request} → Chain s σ₀ rs bs
+  pub chain_keeps : {s : List ℕ} {σ₀ : State} {rs : List Request} {bs : List ℕ} → Chain s σ₀ rs bs → Kept s σ₀ rs bs
+  pub full_within : (a : List Request) (k v : ℕ) (b : List Request) {s bs : List ℕ} {σ₀ : State} {rs : List Request} → Chain s σ₀ rs bs
       → rs ≡ a ++ IN k v ∷ b → FullWithin σ₀ a k v b bs

@@ -25,9 +25,9 @@ neither false t h = (refl, h)
 -- the limits' bounds, at any largest capacity and ghost limit
 pub record FineUpTo (top capacity : ℕ) (L : Limits) : Type 0 where
   pub same : L.capacity ≡ capacity
-  pub some-room : 1 ≤ L.capacity
-  pub capacity-fits : L.capacity ≤ top
-  pub small-fits : L.small_limit ≤ L.capacity
+  pub some_room : 1 ≤ L.capacity
+  pub capacity_fits : L.capacity ≤ top
+  pub small_fits : L.small_limit ≤ L.capacity
   pub ghost_fits : L.ghost_limit ≤ top
 
 pub accepted-up-to : (top c : ℕ) (s g : Float) {L : Limits} → top ≤ 2 ^ 53 → sizing_up_to top c s g ≡ limits L → FineUpTo top c L
@@ -45,7 +45,7 @@ accepted-up-to top c s g {L} t h =
     let f : Factors c s = record { exact = omega arith; good = k.0 } in
     let sm = small-at-most f k.1 in
     let gm = (not_beyond top (product c g) p5.0).1 in
-    rw (sym e) (record { same = refl; some-room = omega arith; capacity-fits = C; small-fits = sm; ghost_fits = gm })
+    rw (sym e) (record { same = refl; some_room = omega arith; capacity_fits = C; small_fits = sm; ghost_fits = gm })
 
 -- and they are what the settings stand for
 pub accepted-limits : (c : ℕ) (s g : Float) {L : Limits} → sizing c s g ≡ limits L → L ≡ limits_for c s g
@@ -62,4 +62,4 @@ accepted-limits c s g {L} h =
 pub accepted-fine : (c : ℕ) (s g : Float) {L : Limits} → sizing c s g ≡ limits L → Fine L
 accepted-fine c s g h =
     let f = accepted-up-to most c s g (omega arith) h in
-    record { some-room = f.some-room; capacity-fits = f.capacity-fits; small-fits = f.small-fits; ghost_fits = f.ghost_fits }
+    record { some_room = f.some_room; capacity_fits = f.capacity_fits; small_fits = f.small_fits; ghost_fits = f.ghost_fits }

@@ -30,17 +30,17 @@ use Rattle.soundness.specs.Checks.{Shaped, Few, Cool, Checks}
 
 module _ {L : Limits} where
   pub no_capacity : L.capacity ≡ 0 → Decides (Fine L) false
-  no_capacity e = refuse (λ f. omega (arith, f.some-room))
+  no_capacity e = refuse (λ f. omega (arith, f.some_room))
 
   pub capacity-above : most < L.capacity → Decides (Fine L) false
-  capacity-above h = refuse (λ f. omega (arith, f.capacity-fits))
+  capacity-above h = refuse (λ f. omega (arith, f.capacity_fits))
 
   pub small-above : L.capacity < L.small_limit → Decides (Fine L) false
-  small-above h = refuse (λ f. omega (arith, f.small-fits))
+  small-above h = refuse (λ f. omega (arith, f.small_fits))
 
   pub ghosts_decide : (L.capacity ≡ 0 → ⊥) → L.capacity ≤ most → L.small_limit ≤ L.capacity → Decides (Fine L) (leb L.ghost_limit most)
   ghosts_decide n h k =
-      decides_le L.ghost_limit most (λ g. record { some-room = omega arith; capacity-fits = h; small-fits = k; ghost_fits = g }) (λ f. f.ghost_fits)
+      decides_le L.ghost_limit most (λ g. record { some_room = omega arith; capacity_fits = h; small_fits = k; ghost_fits = g }) (λ f. f.ghost_fits)
 
   -- past that test
   module _ {r : Bool} (d : Decides (Fine L) r) (e : not r ≡ false) where
@@ -68,7 +68,7 @@ module _ {σ : State} {a m : ℕ} (ra : a ≡ σ.limits.capacity) (rm : m ≡ le
 
     pub few_decides : m ≤ a → n ≤ a - m → {g l : ℕ} → l ≡ σ.limits.ghost_limit → g ≡ length σ.ghosts → Decides (Few σ) (leb g l)
     few_decides i h {g} {l} rl rg =
-        decides_le g l (λ k. record { within = omega (arith, sums σ); few-ghosts = omega arith }) (λ k. omega (arith, k.few-ghosts))
+        decides_le g l (λ k. record { within = omega (arith, sums σ); few_ghosts = omega arith }) (λ k. omega (arith, k.few_ghosts))
 
 -- ---- how warm a node is
 
@@ -99,7 +99,7 @@ module _ {z : Shape} {s : List ℕ} where
         all_decide b r i = decides_map to from
           where
             from : Held z s → All (Cool z s) z.room
-            from k = record { all = λ y l. record { cool = cool-nodes z s k.keeps.pooled k.sound.cool-enough y l } }
+            from k = record { all = λ y l. record { cool = cool-nodes z s k.keeps.pooled k.sound.cool_enough y l } }
 
             to : All (Cool z s) z.room → Held z s
             to a =
@@ -111,14 +111,14 @@ module _ {z : Shape} {s : List ℕ} where
                     fine = subst Fine (sym (limits-shown z s)) h.fine;
                     within = w.within;
                     once = pooled-places z s k.pooled;
-                    cool-enough = nodes-cool z s k.pooled (λ y l. (a.all y l).cool);
-                    few-ghosts = w.few-ghosts;
+                    cool_enough = nodes-cool z s k.pooled (λ y l. (a.all y l).cool);
+                    few_ghosts = w.few_ghosts;
                     narrow = bytes-narrow z s b;
                   };
                 }
 
   pub too_many : {q : Bool} → Decides (Few (state_in z s)) q → not q ≡ true → Decides (Held z s) false
-  too_many {q} g e = refuse (λ h. g.fails (not-true q e) (record { within = h.sound.within; few-ghosts = h.sound.few-ghosts }))
+  too_many {q} g e = refuse (λ h. g.fails (not-true q e) (record { within = h.sound.within; few_ghosts = h.sound.few_ghosts }))
 
 -- ---- the answer
 

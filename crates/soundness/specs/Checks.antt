@@ -19,7 +19,7 @@ pub record Shaped (z : Shape) (s : List ℕ) : Type 0 where
 -- residents and ghosts are no more than the limits allow
 pub record Few (σ : State) : Type 0 where
   pub within : residents σ ≤ σ.limits.capacity
-  pub few-ghosts : length σ.ghosts ≤ σ.limits.ghost_limit
+  pub few_ghosts : length σ.ghosts ≤ σ.limits.ghost_limit
 
 -- the node x, if it is a resident's, is no warmer than the highest frequency
 pub record Cool (z : Shape) (s : List ℕ) (x : ℕ) : Type 0 where

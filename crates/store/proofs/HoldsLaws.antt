@@ -66,11 +66,11 @@ held_shape {z} {w} {s} h k = h.keeps.shaped ∙ ap shape_for (same-limits z w s)
 pub shape_room : {L : Limits} {s : List ℕ} → Fine L → store_bytes ≤ length s → Room (shape_for L) s
 shape_room f h =
     record {
-      some-room = omega (arith, f.some-room);
-      some-buckets = omega (arith, f.some-room);
-      few = omega (arith, f.capacity-fits, f.ghost_fits);
-      few-buckets = omega (arith, f.capacity-fits, f.ghost_fits);
-      fits = omega (arith, f.capacity-fits, f.ghost_fits);
+      some_room = omega (arith, f.some_room);
+      some_buckets = omega (arith, f.some_room);
+      few = omega (arith, f.capacity_fits, f.ghost_fits);
+      few_buckets = omega (arith, f.capacity_fits, f.ghost_fits);
+      fits = omega (arith, f.capacity_fits, f.ghost_fits);
     }
 
 -- the same for a shape that was worked out

@@ -67,8 +67,8 @@ module _ {z : Shape} {s : List ℕ} where
 -- ---- seats
 
 module _ {z : Shape} {s : List ℕ} (k : Keeps z s) where
-  pub tail-is : {q : Queue} {t x : ℕ} → t ≡ list_no q → GetsField z s Prev (z.room + t) x → 1 ≤ length (queue_of q (state_in z s)) → Tail z s q x
-  tail-is {q} {t} {x} e g h =
+  pub tail_is : {q : Queue} {t x : ℕ} → t ≡ list_no q → GetsField z s Prev (z.room + t) x → 1 ≤ length (queue_of q (state_in z s)) → Tail z s q x
+  tail_is {q} {t} {x} e g h =
       let r = k.pooled.carries.lists in
       let b = (kind q).below in
       let l : Last (get_or (cols z s Prev) (z.room + list_no q) 0) (lists_of z (cols z s) (list_no q)) =

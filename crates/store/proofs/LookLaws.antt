@@ -20,7 +20,7 @@ use Rattle.pool.proofs.CarriesLaws.{lives-kind, lives-among, among-miss}
 use Rattle.rules.specs.Parts.{bit, total, found, split_by}
 use Rattle.rules.specs.State.{Queue, Small, key_is, places}
 use Rattle.rules.proofs.PartsLaws.{total_mid}
-use Rattle.rules.proofs.EngineLaws.{place_is, place_none, split-is}
+use Rattle.rules.proofs.EngineLaws.{place_is, place_none, split_is}
 use Rattle.store.specs.declared.QueueKind.{QueueKind}
 use Rattle.store.specs.declared.QueueKind.TheVariants.{Small as Small·, Main as Main·}
 use Rattle.store.specs.declared.Lookup.{Lookup}
@@ -109,9 +109,9 @@ module _ {z : Shape} {s : List ℕ} (h : Held z s) where
         after = map (key_at (cols z s)) a.back;
         seat = record { front = a.front; back = a.back; is = a.is; before = refl; here = e; after = refl };
         place_is = place_none k (state_in z s) (omega (arith, h.sound.once k, ap bit t));
-        split-is =
+        split_is =
             ap (split_by (eqb k)) g
-            ∙ split-is (eqb k) (map (key_at (cols z s)) a.front) (key_at (cols z s) x) (map (key_at (cols z s)) a.back)
+            ∙ split_is (eqb k) (map (key_at (cols z s)) a.front) (key_at (cols z s) x) (map (key_at (cols z s)) a.back)
             (omega (arith, h.sound.once k, ap bit t)) t
             ∙ ap (λ y. found (map (key_at (cols z s)) a.front) y (map (key_at (cols z s)) a.back)) e;
       }

@@ -25,7 +25,7 @@ pub record IsGhost (z : Shape) (s : List ℕ) (k x : ℕ) : Type 0 where
   pub after : List ℕ
   pub seat : GhostSeat z s x before k after
   pub place_is : place k (state_in z s) ≡ nowhere
-  pub split-is : split_by (eqb k) (state_in z s).ghosts ≡ found before k after
+  pub split_is : split_by (eqb k) (state_in z s).ghosts ≡ found before k after
 
 -- the key k is neither
 pub record Lacks (z : Shape) (s : List ℕ) (k : ℕ) : Type 0 where

@@ -1,9 +1,9 @@
 -- `runs::put_pushed` meets its contract.
 use borrow.Author.Rules.{rules}
-use Rattle.runs.proofs.RunLaws.{put-nothing, put_small, put-main, small-fits, main-fits}
+use Rattle.runs.proofs.RunLaws.{put-nothing, put_small, put-main, small_fits, main-fits}
 use Rattle.runs.proofs.put_pushed.Goals as goal
 
-ruleset laws = (rules, put-nothing, put_small, put-main, small-fits, main-fits)
+ruleset laws = (rules, put-nothing, put_small, put-main, small_fits, main-fits)
 
 pub put_reply-requires : goal.put_reply-requires
 put_reply-requires c = search laws

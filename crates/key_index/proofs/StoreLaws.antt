@@ -10,8 +10,7 @@ use Rattle.nodes.specs.Nodes.{Field, Key, Chain, Bucket, Cols, cols, over, with_
 use Rattle.nodes.specs.declared.Shape.{Shape}
 use Rattle.nodes.proofs.NodesLaws.{length-cols}
 use Rattle.nodes.proofs.OverLaws.{over-with, over_in, with-same}
-use Rattle.key_index.specs.declared.Found.{Found}
-use Rattle.key_index.specs.declared.Found.TheVariants.{At}
+use Rattle.std.specs.Prelude.{Option, Some}
 use Rattle.key_index.specs.Links.{Whole}
 use Rattle.key_index.specs.Index.{bucket_of}
 use Rattle.key_index.specs.Walks.{FirstIs, Goes, InFront, Gap}
@@ -35,7 +34,7 @@ walk-less z s {P} {h₀} {h} w b all on = rw on.value (depth_falls z.room (col (
 
 module _ (z : Shape) (s : List ℕ) {k h₀ h : ℕ} (w : Seen z.room (col (cols z s Key)) (col (cols z s Chain)) k h₀ h) (b : h < z.room)
     {r : ℕ} (is : GetsField z s Key h r) where
-  pub walk-found : r ≡ k → FirstIs z.room (col (cols z s Key)) (col (cols z s Chain)) k h₀ (At h)
+  pub walk-found : r ≡ k → FirstIs z.room (col (cols z s Key)) (col (cols z s Chain)) k h₀ (Some h)
   walk-found e = seen-found h w b (sym is.value ∙ e)
 
   pub walk-next : (r ≡ k → ⊥) → {m : ℕ} → GetsField z s Chain h m → Seen z.room (col (cols z s Key)) (col (cols z s Chain)) k h₀ m
@@ -92,7 +91,7 @@ module _ (z : Shape) (s : List ℕ) (room : Room z s) (ixs : Indexes z (cols z s
     pub starts : Whole z.room (col (cols z s Chain)) h
     starts = rw there (index-whole ix some k)
 
-    pub finds : (r : Found) → FirstIs z.room (col (cols z s Key)) (col (cols z s Chain)) k h r → IsFound z (cols z s) k r
+    pub finds : (r : Option ℕ) → FirstIs z.room (col (cols z s Key)) (col (cols z s Chain)) k h r → IsFound z (cols z s) k r
     finds r f = record {
       hit = λ x e. let g = index_at ix some k x (rw (there, e) at f) in record { lives = g.0; holds = g.1 };
       miss = λ e. record { none = index-nothing ix some k (rw (there, e) at f) };

@@ -1,10 +1,8 @@
 -- The index in the store's columns: what the calls find, and what they leave.
 -- Assumes nothing.
-use Rattle.std.specs.Prelude.{◌≡◌, List, ◌⊎◌, ◌≢◌, ℕ, ◌<◌, get_or, set, replicate}
+use Rattle.std.specs.Prelude.{◌≡◌, List, ◌⊎◌, ◌≢◌, ℕ, ◌<◌, get_or, set, replicate, Option, Some, None}
 use Rattle.nodes.specs.Nodes.{Key, Chain, Queue, Bucket, Cols, over, with_column}
 use Rattle.nodes.specs.declared.Shape.{Shape}
-use Rattle.key_index.specs.declared.Found.{Found}
-use Rattle.key_index.specs.declared.Found.TheVariants.{At, Nothing}
 use Rattle.key_index.specs.Index.{bucket_of, Index}
 
 -- a column as a function
@@ -39,9 +37,9 @@ pub record Miss (z : Shape) (c : Cols) (k : ℕ) : Type 0 where
   pub none : (y : ℕ) → LiveIn z c y → get_or (c Key) y 0 ≡ k → ⊥
 
 -- what a lookup of k finds: a node only where it is the key's, and nothing only where there is none
-pub record IsFound (z : Shape) (c : Cols) (k : ℕ) (r : Found) : Type 0 where
-  pub hit : (x : ℕ) → r ≡ At x → Hit z c k x
-  pub miss : r ≡ Nothing → Miss z c k
+pub record IsFound (z : Shape) (c : Cols) (k : ℕ) (r : Option ℕ) : Type 0 where
+  pub hit : (x : ℕ) → r ≡ Some x → Hit z c k x
+  pub miss : r ≡ None → Miss z c k
 
 -- the first link of the chain of k
 abbrev pub head_of : Shape → Cols → ℕ → ℕ

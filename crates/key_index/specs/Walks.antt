@@ -1,18 +1,15 @@
 -- What the walks along a chain answer: the first node with a key, the node in front of another, and the place of a key.
 -- Assumes nothing.
-use Rattle.std.specs.Prelude.{◌≡◌, List, [], ◌∷◌, ◌++◌, ℕ, ◌≤◌, ◌<◌, eqb}
-use Rattle.cells.specs.Columns.{pick}
-use Rattle.key_index.specs.declared.Found.{Found}
-use Rattle.key_index.specs.declared.Found.TheVariants.{At, Nothing}
+use Rattle.std.specs.Prelude.{◌≡◌, List, [], ◌∷◌, ◌++◌, ℕ, ◌≤◌, ◌<◌, eqb, Option}
+use Rattle.std.specs.List.{find}
 use Rattle.key_index.specs.Links.{In, Links, Whole}
 
 -- the first of the nodes that has the key k
-unfoldable pub first_with : (ℕ → ℕ) → ℕ → List ℕ → Found
-first_with key k [] = Nothing
-first_with key k (x ∷ xs) = pick (eqb (key x) k) (At x) (first_with key k xs)
+abbrev pub first_with : (ℕ → ℕ) → ℕ → List ℕ → Option ℕ
+first_with key k xs = find (λ x. eqb (key x) k) xs
 
 -- r is that node of the whole chain from h
-pub record FirstIs (n : ℕ) (key link : ℕ → ℕ) (k h : ℕ) (r : Found) : Type 0 where
+pub record FirstIs (n : ℕ) (key link : ℕ → ℕ) (k h : ℕ) (r : Option ℕ) : Type 0 where
   pub first_is : (w : Whole n link h) → r ≡ first_with key k w.nodes
 
 -- the last of xs, and a where there is none

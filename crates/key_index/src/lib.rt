@@ -13,13 +13,6 @@ ghost use Rattle.key_index.specs.Stored.{col, LiveIn, Indexes, IsFound, CanJoin,
 
 use nodes::Shape;
 
-// What a lookup finds: the node that holds the key, or that none does.
-#[derive(Clone, Copy)]
-pub enum Found {
-    At(usize),
-    Nothing,
-}
-
 // The bucket of a key.
 pub fn bucket_of_key(k: u64, buckets: usize) -> usize
     requires { (0 < buckets) × (buckets < too_many_buckets) }
@@ -30,23 +23,23 @@ pub fn bucket_of_key(k: u64, buckets: usize) -> usize
     (mixed * buckets as u64 / 0x1_0000_0000) as usize
 }
 
-// The first node with a key in the chain whose first link is `h`.
-fn first_in(s: &[u8], z: Shape, h: usize, k: u64) -> Found
+// The first node with a key in the chain whose first link is `h`, if one has it.
+fn first_in(s: &[u8], z: Shape, h: usize, k: u64) -> Option<usize>
     requires { Room z s.now × Whole z.room (col (cols z s.now Field.Chain)) h }
     ensures { FirstIs z.room (col (cols z s.now Field.Key)) (col (cols z s.now Field.Chain)) k h result }
 {
     let mut at = h;
     while at < z.room {
         if nodes::key_of(s, z, at) == k {
-            return Found::At(at);
+            return Some(at);
         }
         at = nodes::chain_of(s, z, at);
     }
-    Found::Nothing
+    None
 }
 
-// The live node that holds a key.
-pub fn find(s: &[u8], z: Shape, k: u64) -> Found
+// The live node that holds a key, if there is one.
+pub fn find(s: &[u8], z: Shape, k: u64) -> Option<usize>
     requires { Room z s.now × Indexes z (cols z s.now) }
     ensures { IsFound z (cols z s.now) k result }
 {
@@ -131,10 +124,8 @@ fn empty_buckets(s: &mut [u8], z: Shape)
     requires { Room z s.old }
     ensures { EmptyBuckets z (cols z s.old) (cols z s.new) }
 {
-    let mut b = 0;
-    while b < z.buckets {
+    for b in 0..z.buckets {
         nodes::set_bucket(s, z, b, z.room);
-        b += 1;
     }
 }
 

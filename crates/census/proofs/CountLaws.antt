@@ -1,19 +1,25 @@
 -- The numbers below n of which a test holds, as a list and counted.
 -- Assumes nothing.
-use mathlib.Core.Path.{◌≡◌, refl, sym, ◌∙◌, ap}
+use mathlib.Core.Path.{◌≡◌, refl, ◌∙◌, ap}
 use mathlib.Core.List.{List, [], ◌∷◌}
+use mathlib.Core.Bool.{Bool, true, false, not}
 use mathlib.Core.Logic.{inl, inr, ◌≢◌}
-use Prim.Native.Nat.{ℕ, zero, suc, ◌+◌, ◌%◌, ◌≤◌, ◌<◌}
+use Prim.Native.Nat.{ℕ, zero, suc, ◌+◌, ◌≤◌, ◌<◌}
 use native.Mathlib.Omega.{arith}
 use native.Mathlib.Decide.{ℕ_discrete}
 use lib.ListN.{length, get_or}
 use Rattle.cells.proofs.MembersLaws.{Nodup}
 use mir.Syntax.{w32}
 use mir.Val.{Fits}
-use Rattle.nodes.specs.Nodes.{Chain, Queue, Bucket, Cols, cols, Room, GetsField}
+use Rattle.std.specs.Int.{from_bool}
+use Rattle.nodes.specs.Nodes.{Chain, Queue, Cols, cols, Room, GetsField}
+use lib.Dec.{eqb}
+use borrow.Author.Tests.{ne_eqb}
+use Rattle.cells.specs.Decides.{Decides}
+use Rattle.cells.proofs.DecidesLaws.{accept, refuse, decides_map}
 use Rattle.nodes.specs.declared.Shape.{Shape}
 use Rattle.key_index.specs.Links.{In}
-use Rattle.census.specs.Check.{one_if, count_to, Weighs, Counts, differ, given, tag_lives, lives, leads, is_going_on}
+use Rattle.census.specs.Check.{one_if, count_to, Counts, differ, given, lives, is_going_on}
 use Rattle.key_index.proofs.DistinctLaws.{out_of}
 
 abbrev keep : ℕ → ℕ → List ℕ → List ℕ
@@ -66,58 +72,20 @@ module _ (t : ℕ → ℕ) where
 
 -- ---- one number
 
-above : (r : ℕ) → (r ≡ 0 → ⊥) → 1 ≡ one_if r
-above zero f = absurd (f refl)
-above (suc r) f = refl
+-- what an answer that decides whether t is above 0 adds to the count
+weighs : (t : ℕ) (r : Bool) → Decides (0 < t) r → (from_bool r ≡ one_if t) × (from_bool r ≤ 1)
+weighs zero false d = (refl, omega arith)
+weighs zero true d = absurd (omega (arith, d.holds refl))
+weighs (suc t) false d = absurd (d.fails refl (omega arith))
+weighs (suc t) true d = (refl, omega arith)
 
-weighs_no : {t : ℕ → ℕ} {x : ℕ} → t x ≡ 0 → Weighs t x 0
-weighs_no e = record { number = rw e; small = omega arith }
-
-weighs_yes : {t : ℕ → ℕ} {x : ℕ} → (t x ≡ 0 → ⊥) → Weighs t x 1
-weighs_yes {t} {x} f = record { number = above (t x) f; small = omega arith }
-
-pub tag_free : {t : ℕ} → t ≡ 0 → Weighs tag_lives t 0
-tag_free e = weighs_no e
-
-pub tag_live : {t : ℕ} → (t ≡ 0 → ⊥) → Weighs tag_lives t 1
-tag_live e = weighs_yes e
-
-pub weighs_tag : (z : Shape) (s : List ℕ) {x t r : ℕ} → GetsField z s Queue x t → Weighs tag_lives t r → Weighs (lives (cols z s)) x r
-weighs_tag z s tag w = record { number = w.number ∙ ap one_if tag.value; small = w.small }
-
--- the end of chains is a number of two bytes, so that nothing is lost where it is cut to them
-module _ (z : Shape) (s : List ℕ) (room : Room z s) {b h : ℕ} (is : GetsField z s Bucket b h) where
-  pub weighs_empty : h ≡ z.room % 65536 → Weighs (leads z (cols z s)) b 0
-  weighs_empty e = weighs_no (omega (arith, is.value, e, room.few))
-
-  pub weighs_leads : (h ≡ z.room % 65536 → ⊥) → Weighs (leads z (cols z s)) b 1
-  weighs_leads e = weighs_yes (λ q. e (omega (arith, is.value, q, room.few)))
-
-given_no : (a b : ℕ) → a ≡ 0 → given a b ≡ 0
-given_no zero b e = refl
-given_no (suc a) b e = absurd (omega arith)
-
-given_yes : (a b : ℕ) → (a ≡ 0 → ⊥) → given a b ≡ b
-given_yes zero b e = absurd (e refl)
-given_yes (suc a) b e = refl
-
-module _ (z : Shape) (s : List ℕ) {x t : ℕ} (tag : GetsField z s Queue x t) where
-  pub weighs_dead : t ≡ 0 → Weighs (is_going_on z (cols z s)) x 0
-  weighs_dead e = weighs_no (given_no (get_or (cols z s Queue) x 0) (differ (get_or (cols z s Chain) x 0) z.room) (sym tag.value ∙ e))
-
-  module _ (lv : t ≡ 0 → ⊥) {m : ℕ} (is : GetsField z s Chain x m) where
-    pub weighs_last : m ≡ z.room → Weighs (is_going_on z (cols z s)) x 0
-    weighs_last e = weighs_no
-        (given_yes (get_or (cols z s Queue) x 0) (differ (get_or (cols z s Chain) x 0) z.room) (λ q. lv (tag.value ∙ q)) ∙ omega (arith, is.value, e))
-
-    pub weighs_on : (m ≡ z.room → ⊥) → Weighs (is_going_on z (cols z s)) x 1
-    weighs_on e = weighs_yes
-        (λ q. e (omega (
-          arith,
-          is.value,
-          sym (given_yes (get_or (cols z s Queue) x 0) (differ (get_or (cols z s Chain) x 0) z.room) (λ o. lv (tag.value ∙ o)))
-              ∙ q,
-        )))
+-- the test of its tag decides whether a node is live
+pub tag-lives : (z : Shape) (s : List ℕ) {x q : ℕ} → GetsField z s Queue x q → Decides (0 < lives (cols z s) x) (not (eqb q 0))
+tag-lives z s {x} {q} tag = decides_map (λ l. omega (arith, l, tag.value)) (λ l. omega (arith, l, tag.value)) (above q)
+  where
+    above : (t : ℕ) → Decides (0 < t) (not (eqb t 0))
+    above zero = refuse (λ l. omega arith)
+    above (suc t) = rw (ne_eqb (suc t) 0 (λ e. omega (arith, e))) (accept (omega arith))
 
 -- above 0 is where a node is live and its link is not the end
 pub goes-on-is : (z : Shape) (c : Cols) (y : ℕ) → 0 < is_going_on z c y → (0 < get_or (c Queue) y 0) × (get_or (c Chain) y 0 ≢ z.room)
@@ -145,21 +113,22 @@ pub counted_start : {t : ℕ → ℕ} {n : ℕ} → CountedTo t n 0 0
 unfolding count_to
 counted_start = record { bound = omega arith; few = omega arith; number = refl }
 
-pub counted_next : {t : ℕ → ℕ} {n x count w : ℕ} → CountedTo t n x count → x < n → Weighs t x w → CountedTo t n (x + 1) (count + w)
+pub counted_next : {t : ℕ → ℕ} {n x count w : ℕ} {r : Bool} → CountedTo t n x count → x < n → Decides (0 < t x) r → w ≡ from_bool r
+    → CountedTo t n (x + 1) (count + w)
 unfolding count_to
-counted_next {t} {n} {x} {count} {w} r h e = record {
+counted_next {t} {n} {x} {count} {w} {r} c h d e = record {
   bound = omega arith;
-  few = omega (arith, r.few, e.small);
-  number = omega (arith, r.number, e.number, ap (count_to t) (more x));
+  few = omega (arith, c.few, e, (weighs (t x) r d).1);
+  number = omega (arith, c.number, e, (weighs (t x) r d).0, ap (count_to t) (more x));
 }
   where
     more : (m : ℕ) → m + 1 ≡ suc m
     more m = omega arith
 
 -- a count of heads fits four bytes
-pub counted-fits : (z : Shape) (s : List ℕ) {t : ℕ → ℕ} {x count w : ℕ} → Room z s → CountedTo t z.buckets x count → x < z.buckets → Weighs t x w
-    → Fits w32 (count + w)
-counted-fits z s room r h e = omega (arith, room.few_buckets, r.few, e.small)
+pub counted-fits : (z : Shape) (s : List ℕ) {t : ℕ → ℕ} {x count w : ℕ} {r : Bool} → Room z s → CountedTo t z.buckets x count → x < z.buckets
+    → Decides (0 < t x) r → w ≡ from_bool r → Fits w32 (count + w)
+counted-fits z s {t} {x} {count} {w} {r} room c h d e = omega (arith, room.few_buckets, c.few, e, (weighs (t x) r d).1)
 
 pub counted-end : {t : ℕ → ℕ} {n x count : ℕ} → CountedTo t n x count → n ≤ x → Counts t n count
 counted-end {t} {n} {x} r h = record { number = r.number ∙ ap (count_to t) (omega (arith, r.bound, h)) }

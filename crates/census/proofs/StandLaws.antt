@@ -2,25 +2,27 @@
 -- Assumes nothing.
 use mathlib.Core.Path.{◌≡◌, refl, sym, ◌∙◌}
 use mathlib.Core.List.{List}
-use mathlib.Core.Bool.{false}
+use mathlib.Core.Bool.{Bool, false, not}
 use mathlib.Core.Logic.{◌⊎◌, inl, inr}
 use Prim.Native.Nat.{ℕ, ◌+◌, ◌≤◌, ◌<◌}
 use native.Mathlib.Omega.{arith}
 use lib.Dec.{eqb}
+use borrow.Author.Tests.{ne_eqb}
 use mir.Val.{Fits}
+use Rattle.std.specs.Int.{from_bool}
 use mir.Syntax.{w64}
 use lib.ListN.{length, get_or}
 use Rattle.cells.specs.Decides.{Decides}
 use Rattle.cells.proofs.DecidesLaws.{refuse, decides_eq}
 use Rattle.nodes.specs.Nodes.{Key, Chain, Queue, Bucket, Cols, cols, Room, GetsField}
 use Rattle.nodes.specs.declared.Shape.{Shape}
-use Rattle.census.specs.declared.Census.{Census}
-use Rattle.census.specs.declared.Census.TheVariants.{Count, Broken}
+use Rattle.std.specs.Prelude.{Option, Some, None}
+use Rattle.std.proofs.lemmas.Option.{none-some, same_Some}
 use Rattle.key_index.specs.Index.{bucket_of}
 use Rattle.key_index.specs.Stored.{col, LiveIn, Indexes}
-use Rattle.census.specs.Check.{Weighs, Counts, tag_lives, lives, leads, is_going_on, EndOk}
+use Rattle.census.specs.Check.{Counts, lives, leads, is_going_on, EndOk}
 use Rattle.census.specs.Check.{WalkSays, IsFirst, IsSecond, Visits}
-use Rattle.census.proofs.CountLaws.{weighs_tag, ones, ones-length, ones-are, ones-have, ones_nodup, goes-on-is}
+use Rattle.census.proofs.CountLaws.{tag-lives, ones, ones-length, ones-are, ones-have, ones_nodup, goes-on-is}
 use Rattle.census.proofs.CountLaws.{is-goes-on, CountedTo, counted_start, counted_next, counted-end, counts-few}
 use Rattle.census.proofs.VouchLaws.{Second, Vouches, vouches_first, vouches_none, vouches_second, second-clean}
 use Rattle.census.proofs.VouchLaws.{Vouching, vouching_start, vouching_next, vouching_few, vouching_stands, vouching_all}
@@ -34,7 +36,7 @@ Vouched z s x sum = Vouching z.room z.buckets (col (cols z s Key)) (col (cols z 
 vouched-start : (z : Shape) (s : List ℕ) → Vouched z s 0 0
 vouched-start z s = vouching_start z.room z.buckets (col (cols z s Key)) (col (cols z s Chain)) (col (cols z s Bucket)) (LiveIn z (cols z s))
 
-module _ (z : Shape) (c : Cols) {x : ℕ} {t : Census} (v : Visits z c x t) where
+module _ (z : Shape) (c : Cols) {x : ℕ} {t : Option ℕ} (v : Visits z c x t) where
   abbrev Backs : ℕ → Type 0
   Backs m = Vouches z.room z.buckets (col (c Key)) (col (c Chain)) (col (c Bucket)) (LiveIn z c) x m
 
@@ -44,36 +46,32 @@ module _ (z : Shape) (c : Cols) {x : ℕ} {t : Census} (v : Visits z c x t) wher
   of-second : Second z.room z.buckets (col (c Key)) (col (c Chain)) (col (c Bucket)) (LiveIn z c) x → IsSecond z c x
   of-second i = record { lives = i.lives; behind = record { lives = i.head-lives; link = i.link-is; under = i.under } }
 
-  backs : {m : ℕ} → t ≡ Count m → Backs m
+  backs : {m : ℕ} → t ≡ Some m → Backs m
   backs {m} e = go v.says
     where
-      go : (IsFirst z c x × (t ≡ Count 1))
+      go : (IsFirst z c x × (t ≡ Some 1))
           ⊎ ((IsSecond z c x × WalkSays z c (bucket_of (get_or (c Key) x 0) z.buckets) x t)
-          ⊎ ((IsFirst z c x → ⊥) × (IsSecond z c x → ⊥) × (t ≡ Count 0))) → Backs m
+          ⊎ ((IsFirst z c x → ⊥) × (IsSecond z c x → ⊥) × (t ≡ Some 0))) → Backs m
       go (inl f) =
-          let o : Count 1 ≡ Count m = sym f.1 ∙ e in
-          let q : 1 ≡ m = cc in
-          rw q at (vouches_first z.room z.buckets (col (c Key)) (col (c Chain)) (col (c Bucket)) (LiveIn z c) x f.0.lives f.0.head)
+          rw (same_Some 1 m (sym f.1 ∙ e)) at (vouches_first z.room z.buckets (col (c Key)) (col (c Chain)) (col (c Bucket)) (LiveIn z c) x f.0.lives f.0.head)
       go (inr (inl f)) =
           let h = f.1.count m e in
           vouches_second z.room z.buckets (col (c Key)) (col (c Chain)) (col (c Bucket)) (LiveIn z c) x (bucket_of (get_or (c Key) x 0) z.buckets) m
           (second-of f.0) refl h.clean h.size
       go (inr (inr f)) =
-          let o : Count 0 ≡ Count m = sym f.2 ∙ e in
-          let q : 0 ≡ m = cc in
-          rw q at (vouches_none z.room z.buckets (col (c Key)) (col (c Chain)) (col (c Bucket)) (LiveIn z c) x
+          rw (same_Some 0 m (sym f.2 ∙ e)) at (vouches_none z.room z.buckets (col (c Key)) (col (c Chain)) (col (c Bucket)) (LiveIn z c) x
           (λ l h. f.0 (record { lives = l; head = h }))
           (λ i. f.1 (of-second i)))
 
-  breaks : 0 < z.buckets → t ≡ Broken → Indexes z c → ⊥
+  breaks : 0 < z.buckets → t ≡ None → Indexes z c → ⊥
   breaks some e ix = go v.says
     where
-      go : (IsFirst z c x × (t ≡ Count 1))
+      go : (IsFirst z c x × (t ≡ Some 1))
           ⊎ ((IsSecond z c x × WalkSays z c (bucket_of (get_or (c Key) x 0) z.buckets) x t)
-          ⊎ ((IsFirst z c x → ⊥) × (IsSecond z c x → ⊥) × (t ≡ Count 0))) → ⊥
-      go (inl f) = let o : Count 1 ≡ Broken = sym f.1 ∙ e in let q : ◌≡◌ {A = ℕ} 0 1 = cc in omega arith
+          ⊎ ((IsFirst z c x → ⊥) × (IsSecond z c x → ⊥) × (t ≡ Some 0))) → ⊥
+      go (inl f) = none-some 1 (sym e ∙ f.1)
       go (inr (inl f)) = f.1.broken e (second-clean ix.index some (second-of f.0))
-      go (inr (inr f)) = let o : Count 0 ≡ Broken = sym f.2 ∙ e in let q : ◌≡◌ {A = ℕ} 0 1 = cc in omega arith
+      go (inr (inr f)) = none-some 0 (sym e ∙ f.2)
 
 -- the counts
 counted : (z : Shape) (s : List ℕ)
@@ -106,11 +104,11 @@ pub record Standing (z : Shape) (s : List ℕ) (x sum live links : ℕ) : Type 0
 pub standing_start : (z : Shape) (s : List ℕ) → Standing z s 0 0 0 0
 standing_start z s = record { vouched = vouched-start z s; counted_live = counted_start; counted-links = counted_start }
 
-pub standing_broken : (z : Shape) (s : List ℕ) {x : ℕ} {t : Census} → Visits z (cols z s) x t → Room z s → t ≡ Broken → Decides (Indexes z (cols z s)) false
+pub standing_broken : (z : Shape) (s : List ℕ) {x : ℕ} {t : Option ℕ} → Visits z (cols z s) x t → Room z s → t ≡ None → Decides (Indexes z (cols z s)) false
 standing_broken z s v room e = refuse (breaks z (cols z s) v room.some_buckets e)
 
 module _ (z : Shape) (s : List ℕ) {x sum live links : ℕ} (g : Standing z s x sum live links) where
-  module _ {t : Census} (v : Visits z (cols z s) x t) {m : ℕ} (e : t ≡ Count m) where
+  module _ {t : Option ℕ} (v : Visits z (cols z s) x t) {m : ℕ} (e : t ≡ Some m) where
     pub standing_fits : Room z s → Fits w64 (sum + m)
     standing_fits room =
         omega (
@@ -121,13 +119,13 @@ module _ (z : Shape) (s : List ℕ) {x sum live links : ℕ} (g : Standing z s x
           room.few,
         )
 
-    pub standing_next : x < z.room → {q a b : ℕ} → GetsField z s Queue x q → Weighs tag_lives q a → Weighs (is_going_on z (cols z s)) x b
-        → Standing z s (x + 1) (sum + m) (live + a) (links + b)
-    standing_next h tag one w = record {
+    pub standing_next : x < z.room → {q a b : ℕ} {r : Bool} → GetsField z s Queue x q → a ≡ from_bool (not (eqb q 0))
+        → Decides (0 < is_going_on z (cols z s) x) r → b ≡ from_bool r → Standing z s (x + 1) (sum + m) (live + a) (links + b)
+    standing_next h tag one d w = record {
       vouched = vouching_next z.room z.buckets (col (cols z s Key)) (col (cols z s Chain)) (col (cols z s Bucket)) (LiveIn z (cols z s)) x sum m
           g.vouched (backs z (cols z s) v e);
-      counted_live = counted_next g.counted_live h (weighs_tag z s tag one);
-      counted-links = counted_next g.counted-links h w;
+      counted_live = counted_next g.counted_live h (tag-lives z s tag) one;
+      counted-links = counted_next g.counted-links h d w;
     }
 
   -- the heads are counted too
@@ -145,9 +143,9 @@ module _ (z : Shape) (s : List ℕ) {x sum live links : ℕ} (g : Standing z s x
       live_long : length (ones (lives (cols z s)) z.room) ≡ live
       live_long = ones-length (lives (cols z s)) z.room ∙ sym (counted-end g.counted_live done).number
 
-      pub standing_uneven : (heads + links ≡ live → ⊥) → Decides (Indexes z (cols z s)) false
-      standing_uneven ne = refuse (λ ix.
-          ne (omega (arith, arrows_count (col (cols z s Key)) (counted z s) room.some_buckets ix.index, heads-long, links-long, live_long)))
+      pub standing_uneven : (heads + links ≡ live → ⊥) → Decides (Indexes z (cols z s)) (eqb (heads + links) live)
+      standing_uneven ne = rw (ne_eqb (heads + links) live ne) (refuse (λ ix.
+          ne (omega (arith, arrows_count (col (cols z s Key)) (counted z s) room.some_buckets ix.index, heads-long, links-long, live_long))))
 
       pub standing_end : EndOk z (cols z s) → heads + links ≡ live → Decides (Indexes z (cols z s)) (eqb sum live)
       standing_end ends even =

@@ -1,10 +1,8 @@
 -- What the check of an index finds on its way: how many heads and links lead on, and which nodes stand where they should.
 -- Assumes nothing.
-use Rattle.std.specs.Prelude.{◌≡◌, ◌⊎◌, ℕ, zero, suc, ◌+◌, ◌-◌, ◌≤◌, ◌<◌, length, get_or}
+use Rattle.std.specs.Prelude.{◌≡◌, ◌⊎◌, ℕ, zero, suc, ◌+◌, ◌-◌, ◌≤◌, ◌<◌, length, get_or, Option, Some, None}
 use Rattle.nodes.specs.Nodes.{Key, Chain, Queue, Bucket, Cols}
 use Rattle.nodes.specs.declared.Shape.{Shape}
-use Rattle.census.specs.declared.Census.{Census}
-use Rattle.census.specs.declared.Census.TheVariants.{Count, Broken}
 use Rattle.key_index.specs.Index.{bucket_of, Clean}
 use Rattle.key_index.specs.Stored.{col, LiveIn, head_of}
 
@@ -20,11 +18,6 @@ unfoldable pub count_to : (ℕ → ℕ) → ℕ → ℕ
 count_to t zero = 0
 count_to t (suc n) = one_if (t n) + count_to t n
 
--- r is what x adds to the count
-pub record Weighs (t : ℕ → ℕ) (x r : ℕ) : Type 0 where
-  pub number : r ≡ one_if (t x)
-  pub small : r ≤ 1
-
 -- r is the count of all below n
 pub record Counts (t : ℕ → ℕ) (n r : ℕ) : Type 0 where
   pub number : r ≡ count_to t n
@@ -37,10 +30,6 @@ differ a b = a - b + (b - a)
 abbrev pub given : ℕ → ℕ → ℕ
 given zero b = 0
 given (suc a) b = b
-
--- above 0 for a tag that says that a node is live
-abbrev pub tag_lives : ℕ → ℕ
-tag_lives t = t
 
 -- above 0 for a live node
 abbrev pub lives : Cols → ℕ → ℕ
@@ -73,9 +62,9 @@ pub record CleanHas (z : Shape) (c : Cols) (b h m : ℕ) : Type 0 where
   pub size : length clean.whole.nodes ≡ m
 
 -- what a walk along it says: how many nodes it has, or that it is no such chain
-pub record WalkSays (z : Shape) (c : Cols) (b h : ℕ) (r : Census) : Type 0 where
-  pub count : (m : ℕ) → r ≡ Count m → CleanHas z c b h m
-  pub broken : r ≡ Broken → CleanIn z c b h → ⊥
+pub record WalkSays (z : Shape) (c : Cols) (b h : ℕ) (r : Option ℕ) : Type 0 where
+  pub count : (m : ℕ) → r ≡ Some m → CleanHas z c b h m
+  pub broken : r ≡ None → CleanIn z c b h → ⊥
 
 -- a link m behind a node with the key k ends the chain, or leads to a node with a larger key
 pub record LeadsUp (n : ℕ) (key : ℕ → ℕ) (k m : ℕ) : Type 0 where
@@ -107,8 +96,8 @@ pub record IsSecond (z : Shape) (c : Cols) (x : ℕ) : Type 0 where
   pub behind : Behind z c (head_of z c (get_or (c Key) x 0)) x (get_or (c Key) x 0)
 
 -- what a visit of x says: 1 for a first node, for a second one what is said of the chain from it on, and 0 for any other
-pub record Visits (z : Shape) (c : Cols) (x : ℕ) (r : Census) : Type 0 where
+pub record Visits (z : Shape) (c : Cols) (x : ℕ) (r : Option ℕ) : Type 0 where
   pub says :
-      (IsFirst z c x × (r ≡ Count 1))
+      (IsFirst z c x × (r ≡ Some 1))
       ⊎ ((IsSecond z c x × WalkSays z c (bucket_of (get_or (c Key) x 0) z.buckets) x r)
-      ⊎ ((IsFirst z c x → ⊥) × (IsSecond z c x → ⊥) × (r ≡ Count 0)))
+      ⊎ ((IsFirst z c x → ⊥) × (IsSecond z c x → ⊥) × (r ≡ Some 0)))

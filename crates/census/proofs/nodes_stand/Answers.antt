@@ -24,5 +24,5 @@ overflow_add-heads c = search laws
 pub returns-then-heads-links : goal.returns-then-heads-links
 returns-then-heads-links c = search laws
 
-pub returns : goal.returns
-returns c = search laws
+pub returns-else-heads-links : goal.returns-else-heads-links
+returns-else-heads-links c = search laws

@@ -8,13 +8,14 @@ use Prim.Native.Nat.{ℕ, zero, suc, ◌+◌, ◌<◌}
 use native.Mathlib.Omega.{arith}
 use native.Mathlib.Decide.{ℕ_discrete}
 use lib.ListN.{length, length-append}
+use Rattle.std.proofs.lemmas.List.{length-map}
 use Rattle.cells.proofs.MembersLaws.{Nodup}
 use Rattle.key_index.specs.Links.{In, Links}
 use Rattle.key_index.specs.Index.{bucket_of, Clean, Bucketed, Index}
 use Rattle.census.specs.Check.{LeadsUp}
 use Rattle.key_index.proofs.LinksLaws.{in-append, in-cases, first, within, behind, next_in, no_return, next-once, in-front}
 use Rattle.key_index.proofs.DistinctLaws.{fewer, onto, tight, nodup_both, nodup_parts}
-use Rattle.key_index.proofs.DistinctLaws.{in_map, map_in, map-long, map-once, map_nodup}
+use Rattle.key_index.proofs.DistinctLaws.{in_map, map_in, map-once, map_nodup}
 use Rattle.key_index.proofs.RisesLaws.{rises_once}
 use Rattle.key_index.proofs.IndexLaws.{bucket-below}
 use Rattle.census.proofs.WalkedLaws.{walked_start, walk-out}
@@ -40,7 +41,7 @@ module _ {n buckets : ℕ} (key : ℕ → ℕ) {link head : ℕ → ℕ} {live :
   goals = map head heads ++ map link links
 
   goals-long : length goals ≡ length heads + length links
-  goals-long = omega (arith, length-append (map head heads) (map link links), map-long head heads, map-long link links)
+  goals-long = omega (arith, length-append (map head heads) (map link links), length-map heads head, length-map links link)
 
   head_goal : (b : ℕ) → b < buckets → (y : ℕ) → head b ≡ y → y < n → In y goals
   head_goal b h y e l =

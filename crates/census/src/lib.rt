@@ -44,7 +44,8 @@ fn link_ok(s: &[u8], z: Shape, b: usize, x: usize) -> bool
 }
 
 // How many nodes the chain from the node `h` on has, or `None` where it is no chain of the bucket `b`. The
-// links may be anything; it ends because the keys rise, so that no node is passed twice.
+// links may be anything; it ends because the keys rise, so that no node is passed twice. The loop follows
+// links, and `count` is no index into anything.
 fn walk(s: &[u8], z: Shape, b: usize, h: usize) -> Option<usize>
     requires { Room z s.now × (h < z.room) }
     ensures { WalkSays z (cols z s.now) b h result }

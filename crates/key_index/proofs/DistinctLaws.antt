@@ -3,7 +3,7 @@
 use mathlib.Core.Path.{◌≡◌, refl, sym, ◌∙◌, ap, subst}
 use mathlib.Core.List.{List, [], ◌∷◌, ◌++◌, map}
 use mathlib.Core.Logic.{◌⊎◌, inl, inr, ⊎_elim, ◌≢◌}
-use Prim.Native.Nat.{ℕ, suc, ◌≤◌, ◌<◌}
+use Prim.Native.Nat.{ℕ, ◌≤◌, ◌<◌}
 use native.Mathlib.Omega.{arith}
 use lib.ListN.{length, length-append}
 use Rattle.cells.specs.Members.{Every, Out}
@@ -101,10 +101,6 @@ module _ (f : ℕ → ℕ) where
   map_in y [] x' = elim x' [ ]
   map_in y (x ∷ xs) (inl e) = (x, inl refl, e)
   map_in y (x ∷ xs) (inr i) = let r = map_in y xs i in (r.0, inr r.1, r.2)
-
-  pub map-long : (xs : List ℕ) → length (map f xs) ≡ length xs
-  map-long [] = refl
-  map-long (x ∷ xs) = ap suc (map-long xs)
 
   pub map-once : (xs : List ℕ) → Nodup (map f xs) → (x y : ℕ) → In x xs → In y xs → f x ≡ f y → x ≡ y
   map-once [] d x y x6 _ e = elim x6 [ ]

@@ -23,7 +23,8 @@ pub fn bucket_of_key(k: u64, buckets: usize) -> usize
     (mixed * buckets as u64 / 0x1_0000_0000) as usize
 }
 
-// The first node with a key in the chain whose first link is `h`, if one has it.
+// The first node with a key in the chain whose first link is `h`, if one has it. This walk and the two
+// below follow links, and count nothing: an iterator over a chain would hold the same loop, and no less.
 fn first_in(s: &[u8], z: Shape, h: usize, k: u64) -> Option<usize>
     requires { Room z s.now × Whole z.room (col (cols z s.now Field.Chain)) h }
     ensures { FirstIs z.room (col (cols z s.now Field.Key)) (col (cols z s.now Field.Chain)) k h result }
@@ -49,7 +50,7 @@ pub fn find(s: &[u8], z: Shape, k: u64) -> Option<usize>
 }
 
 // The place of the key `k` in the chain whose first link is `h`: the last node with a smaller key, or
-// the end where the first node has none.
+// the end where the first node has none. The end is the number that stands for it in the store's links.
 fn place_of(s: &[u8], z: Shape, h: usize, k: u64) -> usize
     requires { Room z s.now × Whole z.room (col (cols z s.now Field.Chain)) h }
     ensures { Gap z.room (col (cols z s.now Field.Key)) (col (cols z s.now Field.Chain)) k h result }

@@ -1,2 +1,3 @@
 pub mod OverLaws
 pub mod NodesLaws
+pub mod FieldsLaws

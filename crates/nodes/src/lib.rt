@@ -1,34 +1,17 @@
-// The store's cells: one function to read and one to write each field. A header of sixteen numbers,
+// The store's cells: one function to read and one to write a cell, by its column. A header of sixteen numbers,
 // then for each field of a node a column, with four sentinels behind the nodes, then the heads of the
 // buckets, all in one lent slice of bytes (RULES 1.3; docs/STORE.md). A contract here speaks of columns alone, so
 // that nothing above sees a byte.
 #![tactic(auto)]
 
-ghost use Rattle.std.specs.Prelude.{◌+◌, ◌<◌};
-ghost use Rattle.nodes.specs.Nodes.{Field, Room, SetsField, GetsField};
+ghost use Rattle.std.specs.Prelude.{◌≡◌, ◌+◌, ◌*◌, ◌<◌, ◌≤◌};
+ghost use Rattle.nodes.specs.Fields.{field_of, rows, limit};
+ghost use Rattle.nodes.specs.Nodes.{Room, SetsField, GetsField, span_of};
 
 // Where the header is, and where the columns of the nodes start, one behind the other.
 const HEAD: usize = 0;
 
 const NODES: usize = 128;
-
-// How many bytes of a node are in the columns in front of each. All addresses below have the table's one form: start of the columns,
-// this many bytes to a node, and the cell's own width for each node in front of it.
-const KEY: usize = 0;
-
-const VALUE: usize = 8;
-
-const NEXT: usize = 16;
-
-const PREV: usize = 18;
-
-const CHAIN: usize = 20;
-
-const QUEUE: usize = 22;
-
-const FREQ: usize = 23;
-
-const NODE: usize = 24;
 
 const SENTINELS: usize = 4;
 
@@ -39,134 +22,96 @@ pub struct Shape {
     pub buckets: usize,
 }
 
-pub fn head_of(s: &[u8], z: Shape, i: usize) -> u64
-    requires { Room z s.now × (i < 16) }
-    ensures { GetsField z s.now Field.Head i result }
-{
-    cells::get64(s, HEAD + 8 * i)
+// The columns: the header's, those of a node's fields, and that of the buckets.
+#[derive(Clone, Copy)]
+pub enum Column {
+    Head,
+    Key,
+    Value,
+    Next,
+    Prev,
+    Chain,
+    Queue,
+    Freq,
+    Bucket,
 }
 
-pub fn set_head(s: &mut [u8], z: Shape, i: usize, v: u64)
-    requires { Room z s.old × (i < 16) }
-    ensures { SetsField z s.old s.new Field.Head i v }
-{
-    cells::put64(s, HEAD + 8 * i, v);
+// Where the cells of a column are: the first byte, and how many bytes each one has.
+#[derive(Clone, Copy)]
+struct Cells {
+    start: usize,
+    width: usize,
 }
 
-pub fn key_of(s: &[u8], z: Shape, i: usize) -> u64
-    requires { Room z s.now × (i < z.room + 4) }
-    ensures { GetsField z s.now Field.Key i result }
+// Cells of w bytes behind columns of b bytes to a node; the sentinels are nodes too.
+#[inline(always)]
+fn behind(z: Shape, b: usize, w: usize) -> Cells
+    requires { (z.room + 4 < 65536) × (b ≤ 24) }
+    ensures start { result.start ≡ 128 + b * (z.room + 4) }
+    ensures width { result.width ≡ w }
 {
-    cells::get64(s, NODES + KEY * (z.room + SENTINELS) + 8 * i)
+    Cells {
+        start: NODES + b * (z.room + SENTINELS),
+        width: w,
+    }
 }
 
-pub fn set_key(s: &mut [u8], z: Shape, i: usize, v: u64)
-    requires { Room z s.old × (i < z.room + 4) }
-    ensures { SetsField z s.old s.new Field.Key i v }
+// The layout. All of it is inlined, so that a cell that is named in code costs one load or one store.
+#[inline(always)]
+fn cells_of(z: Shape, c: Column) -> Cells
+    requires { z.room + 4 < 65536 }
+    ensures start { result.start ≡ (span_of z (field_of c)).start }
+    ensures width { result.width ≡ (span_of z (field_of c)).width }
 {
-    cells::put64(s, NODES + KEY * (z.room + SENTINELS) + 8 * i, v);
+    match c {
+        Column::Head => Cells {
+            start: HEAD,
+            width: 8,
+        },
+        Column::Key => behind(z, 0, 8),
+        Column::Value => behind(z, 8, 8),
+        Column::Next => behind(z, 16, 2),
+        Column::Prev => behind(z, 18, 2),
+        Column::Chain => behind(z, 20, 2),
+        Column::Queue => behind(z, 22, 1),
+        Column::Freq => behind(z, 23, 1),
+        Column::Bucket => behind(z, 24, 2),
+    }
 }
 
-pub fn value_of(s: &[u8], z: Shape, i: usize) -> u64
-    requires { Room z s.now × (i < z.room + 4) }
-    ensures { GetsField z s.now Field.Value i result }
+#[inline(always)]
+pub fn get64(s: &[u8], z: Shape, c: Column, i: usize) -> u64
+    requires { Room z s.now × (i < rows z c) }
+    ensures gets_field { GetsField z s.now (field_of c) i result }
+    ensures upper_bound { result < limit z c }
 {
-    cells::get64(s, NODES + VALUE * (z.room + SENTINELS) + 8 * i)
+    let p = cells_of(z, c);
+    cells::get(s, p.start + p.width * i, p.width)
 }
 
-pub fn set_value(s: &mut [u8], z: Shape, i: usize, v: u64)
-    requires { Room z s.old × (i < z.room + 4) }
-    ensures { SetsField z s.old s.new Field.Value i v }
+#[inline(always)]
+pub fn set64(s: &mut [u8], z: Shape, c: Column, i: usize, v: u64)
+    requires { Room z s.old × (i < rows z c) × (v < limit z c) }
+    ensures { SetsField z s.old s.new (field_of c) i v }
 {
-    cells::put64(s, NODES + VALUE * (z.room + SENTINELS) + 8 * i, v);
+    let p = cells_of(z, c);
+    cells::put(s, p.start + p.width * i, p.width, v);
 }
 
-pub fn next_of(s: &[u8], z: Shape, i: usize) -> usize
-    requires { Room z s.now × (i < z.room + 4) }
-    ensures gets_field { GetsField z s.now Field.Next i result }
-    ensures upper_bound { result < 65536 }
+// The same for numbers of nodes, of lists and of uses.
+#[inline(always)]
+pub fn get(s: &[u8], z: Shape, c: Column, i: usize) -> usize
+    requires { Room z s.now × (i < rows z c) }
+    ensures gets_field { GetsField z s.now (field_of c) i result }
+    ensures upper_bound { result < limit z c }
 {
-    cells::get16(s, NODES + NEXT * (z.room + SENTINELS) + 2 * i) as usize
+    get64(s, z, c, i) as usize
 }
 
-pub fn set_next(s: &mut [u8], z: Shape, i: usize, v: usize)
-    requires { Room z s.old × (i < z.room + 4) × (v < 65536) }
-    ensures { SetsField z s.old s.new Field.Next i v }
+#[inline(always)]
+pub fn set(s: &mut [u8], z: Shape, c: Column, i: usize, v: usize)
+    requires { Room z s.old × (i < rows z c) × (v < limit z c) }
+    ensures { SetsField z s.old s.new (field_of c) i v }
 {
-    cells::put16(s, NODES + NEXT * (z.room + SENTINELS) + 2 * i, v as u16);
-}
-
-pub fn prev_of(s: &[u8], z: Shape, i: usize) -> usize
-    requires { Room z s.now × (i < z.room + 4) }
-    ensures gets_field { GetsField z s.now Field.Prev i result }
-    ensures upper_bound { result < 65536 }
-{
-    cells::get16(s, NODES + PREV * (z.room + SENTINELS) + 2 * i) as usize
-}
-
-pub fn set_prev(s: &mut [u8], z: Shape, i: usize, v: usize)
-    requires { Room z s.old × (i < z.room + 4) × (v < 65536) }
-    ensures { SetsField z s.old s.new Field.Prev i v }
-{
-    cells::put16(s, NODES + PREV * (z.room + SENTINELS) + 2 * i, v as u16);
-}
-
-pub fn chain_of(s: &[u8], z: Shape, i: usize) -> usize
-    requires { Room z s.now × (i < z.room + 4) }
-    ensures gets_field { GetsField z s.now Field.Chain i result }
-    ensures upper_bound { result < 65536 }
-{
-    cells::get16(s, NODES + CHAIN * (z.room + SENTINELS) + 2 * i) as usize
-}
-
-pub fn set_chain(s: &mut [u8], z: Shape, i: usize, v: usize)
-    requires { Room z s.old × (i < z.room + 4) × (v < 65536) }
-    ensures { SetsField z s.old s.new Field.Chain i v }
-{
-    cells::put16(s, NODES + CHAIN * (z.room + SENTINELS) + 2 * i, v as u16);
-}
-
-pub fn queue_of(s: &[u8], z: Shape, i: usize) -> usize
-    requires { Room z s.now × (i < z.room + 4) }
-    ensures gets_field { GetsField z s.now Field.Queue i result }
-    ensures upper_bound { result < 256 }
-{
-    cells::get8(s, NODES + QUEUE * (z.room + SENTINELS) + 1 * i) as usize
-}
-
-pub fn set_queue(s: &mut [u8], z: Shape, i: usize, v: usize)
-    requires { Room z s.old × (i < z.room + 4) × (v < 256) }
-    ensures { SetsField z s.old s.new Field.Queue i v }
-{
-    cells::put8(s, NODES + QUEUE * (z.room + SENTINELS) + 1 * i, v as u8);
-}
-
-pub fn freq_of(s: &[u8], z: Shape, i: usize) -> usize
-    requires { Room z s.now × (i < z.room + 4) }
-    ensures gets_field { GetsField z s.now Field.Freq i result }
-    ensures upper_bound { result < 256 }
-{
-    cells::get8(s, NODES + FREQ * (z.room + SENTINELS) + 1 * i) as usize
-}
-
-pub fn set_freq(s: &mut [u8], z: Shape, i: usize, v: usize)
-    requires { Room z s.old × (i < z.room + 4) × (v < 256) }
-    ensures { SetsField z s.old s.new Field.Freq i v }
-{
-    cells::put8(s, NODES + FREQ * (z.room + SENTINELS) + 1 * i, v as u8);
-}
-
-pub fn bucket_of(s: &[u8], z: Shape, i: usize) -> usize
-    requires { Room z s.now × (i < z.buckets) }
-    ensures gets_field { GetsField z s.now Field.Bucket i result }
-    ensures upper_bound { result < 65536 }
-{
-    cells::get16(s, NODES + NODE * (z.room + SENTINELS) + 2 * i) as usize
-}
-
-pub fn set_bucket(s: &mut [u8], z: Shape, i: usize, v: usize)
-    requires { Room z s.old × (i < z.buckets) × (v < 65536) }
-    ensures { SetsField z s.old s.new Field.Bucket i v }
-{
-    cells::put16(s, NODES + NODE * (z.room + SENTINELS) + 2 * i, v as u16);
+    set64(s, z, c, i, v as u64);
 }

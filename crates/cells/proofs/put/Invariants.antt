@@ -1,0 +1,6 @@
+-- `cells::put` meets its contract: byte by byte from the first.
+use Rattle.cells.proofs.StepsLaws.{WrittenUp}
+use Rattle.cells.proofs.put.Given as goal
+
+abbrev pub invariant-loop-i : goal.invariant-loop-i
+invariant-loop-i l = WrittenUp l.w l.initial.s l.s l.at l.v l.i l.rest

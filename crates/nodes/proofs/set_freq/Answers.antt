@@ -1,9 +1,0 @@
--- `nodes::set_freq` meets its contract.
-use borrow.Author.Rules.{rules}
-use Rattle.nodes.proofs.NodesLaws.{wrote}
-use Rattle.nodes.proofs.set_freq.Goals as goal
-
-ruleset laws = (rules, wrote)
-
-pub returns : goal.returns
-returns c = search laws

@@ -1,9 +1,0 @@
--- `nodes::set_next` meets its contract.
-use borrow.Author.Rules.{rules}
-use Rattle.nodes.proofs.NodesLaws.{wrote}
-use Rattle.nodes.proofs.set_next.Goals as goal
-
-ruleset laws = (rules, wrote)
-
-pub returns : goal.returns
-returns c = search laws

@@ -1,9 +1,0 @@
--- `nodes::value_of` meets its contract.
-use borrow.Author.Rules.{rules}
-use Rattle.nodes.proofs.NodesLaws.{was_read}
-use Rattle.nodes.proofs.value_of.Goals as goal
-
-ruleset laws = (rules, was_read)
-
-pub returns : goal.returns
-returns c = search laws

@@ -33,29 +33,11 @@ pub struct Limits {
     pub ghost_limit: u64,
 }
 
-// The limits that settings come to, or why they are refused.
-#[derive(Clone, Copy)]
-pub enum Sized {
-    Accepted(Limits),
-    Refused(Turned),
-}
-
-// What the bytes of a settings record ask for; or they are wrong or too few.
-#[derive(Clone, Copy)]
-pub enum Read {
-    Asked(Settings),
-    Bad,
-}
-
-// Whether x is no ratio: a NaN, an infinity, or below zero. -0.0 is not below 0.0, and a NaN is below nothing,
-// the infinity 1.0 / 0.0 included.
+// Whether x is no ratio: a NaN, an infinity, or below zero. -0.0 is not below 0.0.
 fn bad_ratio(x: f64) -> bool
     ensures { result ≡ is_bad_ratio x }
 {
-    if x < 0.0 {
-        return true;
-    }
-    !(x < 1.0 / 0.0)
+    !x.is_finite() || x < 0.0
 }
 
 // The whole number nearest to the size of x, halves up, worked out from the bits. It is cut off at 2^52.
@@ -85,7 +67,7 @@ fn limit(capacity: u64, ratio: f64) -> u64
 
 // The limits for these settings, or the refusal, at a largest capacity and ghost limit of `top`. The tests
 // stand in the order of the refusals.
-fn size_up_to(top: u64, s: Settings) -> Sized
+fn size_up_to(top: u64, s: Settings) -> Result<Limits, Turned>
     requires { top < 2 ^ 52 }
     ensures { sized_of result ≡ sizing_of top s }
 {
@@ -93,26 +75,23 @@ fn size_up_to(top: u64, s: Settings) -> Sized
     let small_ratio = s.small_ratio;
     let ghost_ratio = s.ghost_ratio;
     if capacity == 0 {
-        return Sized::Refused(Turned::NoCapacity);
+        return Err(Turned::NoCapacity);
     }
     if top < capacity {
-        return Sized::Refused(Turned::CapacityAbove);
+        return Err(Turned::CapacityAbove);
     }
-    if bad_ratio(small_ratio) {
-        return Sized::Refused(Turned::SmallRatio);
-    }
-    if 1.0 < small_ratio {
-        return Sized::Refused(Turned::SmallRatio);
+    if bad_ratio(small_ratio) || 1.0 < small_ratio {
+        return Err(Turned::SmallRatio);
     }
     if bad_ratio(ghost_ratio) {
-        return Sized::Refused(Turned::GhostRatio);
+        return Err(Turned::GhostRatio);
     }
     let small_limit = limit(capacity, small_ratio);
     let ghost_limit = limit(capacity, ghost_ratio);
     if top < ghost_limit {
-        return Sized::Refused(Turned::GhostLimit);
+        return Err(Turned::GhostLimit);
     }
-    Sized::Accepted(Limits {
+    Ok(Limits {
         capacity,
         small_limit,
         ghost_limit,
@@ -120,7 +99,7 @@ fn size_up_to(top: u64, s: Settings) -> Sized
 }
 
 // The limits for these settings, or the refusal.
-pub fn size(s: Settings) -> Sized
+pub fn size(s: Settings) -> Result<Limits, Turned>
     ensures { sized_of result ≡ sizing_of most s }
 {
     size_up_to(rules::MOST, s)
@@ -148,18 +127,12 @@ fn decode(s: &[u8], at: usize) -> Settings
     }
 }
 
-// The settings of a CF record at the start of s.
-pub fn read_settings(s: &[u8]) -> Read
+// The settings of a CF record at the start of s; none where its bytes are wrong or too few.
+pub fn read_settings(s: &[u8]) -> Option<Settings>
     ensures { asked_of result ≡ settings_of s.now }
 {
-    if s.len() < SETTINGS_BYTES {
-        return Read::Bad;
+    if s.len() < SETTINGS_BYTES || !s.starts_with(&CF) {
+        return None;
     }
-    if s[0] != CF[0] {
-        return Read::Bad;
-    }
-    if s[1] != CF[1] {
-        return Read::Bad;
-    }
-    Read::Asked(decode(s, 2))
+    Some(decode(s, 2))
 }

@@ -3,6 +3,7 @@ use borrow.Author.Rules.{rules}
 use lib.Ieee.{of_bits}
 use Rattle.sizing.proofs.OrderLaws.{SmallFits, RatiosFit, small_factors, ghost_factors, is_1, is_2, is_3, is_3_above, is_4, is_5, accepted}
 use Rattle.sizing.proofs.size_up_to.Goals as goal
+use Rattle.sizing.proofs.size_up_to.Goals.{then-bad_ratio-via-then-bad_ratio, then-bad_ratio-via-else-bad_ratio+then-small_ratio}
 
 ruleset laws = (rules, small_factors, ghost_factors, is_1, is_2, is_3, is_3_above, is_4, is_5, accepted)
 
@@ -16,11 +17,10 @@ returns-then-top-capacity c = search laws
 
 pub returns-then-bad_ratio : goal.returns-then-bad_ratio
 unfolding of_bits
-returns-then-bad_ratio c = search laws
-
-pub returns-then-small_ratio : goal.returns-then-small_ratio
-unfolding of_bits
-returns-then-small_ratio c = search laws
+returns-then-bad_ratio c = elim c.then-bad_ratio.branch [
+  | then-bad_ratio-via-then-bad_ratio w ↦ search laws
+  | then-bad_ratio-via-else-bad_ratio+then-small_ratio w ↦ search laws
+]
 
 pub returns-then-bad_ratio-2 : goal.returns-then-bad_ratio-2
 unfolding of_bits

@@ -3,8 +3,8 @@
 use mathlib.Core.Path.{◌≡◌, refl, sym, ap, ap₂, subst, ◌∙◌}
 use mathlib.Core.Bool.{true}
 use mathlib.Core.List.{List, [], ◌++◌, append_assoc, append-nil}
-use Prim.Native.Nat.{ℕ, ◌+◌, ◌-◌, ◌≤◌, ◌<◌}
-use native.Mathlib.Nat.{add-zero, sub-zero}
+use Prim.Native.Nat.{ℕ, ◌+◌, ◌-◌, ◌≤◌, ◌<◌, min}
+use native.Mathlib.Nat.{add-zero}
 use native.Mathlib.Omega.{arith}
 use lib.ListN.{length, take, drop, length-append, length-drop, drop_of_length-le}
 use lib.Seq.{take_all, length-take-le, take-take, take_at, take-append-add, take-length, drop_at}
@@ -21,7 +21,7 @@ use Rattle.wire.specs.Wire.{asked, meaning}
 use Rattle.carry.specs.declared.Head.TheVariants.{Whole, Cut, Unknown}
 use Rattle.carry.specs.Carries.{kept_in}
 use Rattle.carry.proofs.FormLaws.{kept-part}
-use Rattle.carry.specs.Heads.{Completes, StillCut, HeadJoins, HeadFilled, Lesser}
+use Rattle.carry.specs.Heads.{Completes, StillCut, HeadJoins, HeadFilled}
 
 -- ---- the buffer
 
@@ -40,59 +40,37 @@ overlaid k p head n l {h₁} {part} {h₂} e f g =
     g ∙ ap₂ (λ (x y : List ℕ). x ++ (part ++ y)) front none ∙ ap (λ (x : List ℕ). k ++ x) (append-nil part ∙ second) ∙ sym (append_assoc k p d)
 
 -- the bytes kept, and as many of the piece as there is room for
-module _ (bs piece head : List ℕ) (count m : ℕ) (long : carry_bytes ≤ length bs) (few : count ≤ most_kept) (room : length head ≡ longest_record)
-    (least : Lesser (length piece) (longest_record - count) m) where
-  abbrev k : List ℕ
-  k = kept_in bs count
-
+module _ (k piece head : List ℕ) (m : ℕ) (few : length k ≤ most_kept) (room : length head ≡ longest_record)
+    (least : m ≡ min (length piece) (longest_record - length k)) where
   abbrev p : List ℕ
   p = take m piece
 
-  -- how many bytes each part has, and both
-  k-length : length k ≡ count
-  k-length = length-take-le count (drop 10 bs) (omega (arith, length-drop 10 bs))
-
+  -- how many bytes the second part has, and both
   p-length : length p ≡ m
-  p-length = length-take-le m piece least.first
+  p-length = length-take-le m piece (omega arith)
 
-  both : length (k ++ p) ≡ count + m
-  both = omega (arith, length-append k p, k-length, p-length)
+  both : length (k ++ p) ≡ length k + m
+  both = omega (arith, length-append k p, p-length)
 
   -- with these in front the buffer is filled
-  fills : {h : List ℕ} → h ≡ k ++ p ++ drop (length p) (drop count head) → HeadFilled k piece h (count + m)
+  fills : {h : List ℕ} → h ≡ k ++ p ++ drop (length p) (drop (length k) head) → HeadFilled k piece h (length k + m)
   fills {h} e =
-      let d : List ℕ = drop (length p) (drop count head) in
-      let b = least.second in
+      let d : List ℕ = drop (length p) (drop (length k) head) in
       let all = length-append k piece in
       record {
-        long = omega (arith, ap length e, length-append (k ++ p) d, both, length-drop (length p) (drop count head), length-drop count head, p-length);
+        long = omega (arith, ap length e, length-append (k ++ p) d, both, length-drop (length p) (drop (length k) head), length-drop (length k) head, p-length);
         fits = omega arith;
-        begun = omega (arith, k-length);
-        within = omega (arith, all, k-length, least.first);
-        full = λ h. omega (arith, all, k-length, least.one (omega arith));
-        bytes = ap (take (count + m)) e ∙ take_at (k ++ p) d (count + m) both ∙ sym (take-append-add k piece m)
-            ∙ ap (λ (i : ℕ). take (i + m) (k ++ piece)) k-length;
+        begun = omega arith;
+        within = omega arith;
+        full = λ h. omega arith;
+        bytes = ap (take (length k + m)) e ∙ take_at (k ++ p) d (length k + m) both ∙ sym (take-append-add k piece m);
       }
 
-  -- the part of the bytes lent, and that of the piece, as the ranges give them
-  abbrev lent : List ℕ
-  lent = take (10 + count - 10) (drop 10 bs)
-
-  abbrev first : List ℕ
-  first = take (m - 0) piece
-
-  abbrev Copied : List ℕ → List ℕ → List ℕ → Type 0
-  Copied from before after = after ≡ take (length from) from ++ drop (length from) before
-
   -- two copies fill it
-  pub filled : {h₁ part h₂ : List ℕ} → h₁ ≡ take (length lent) lent ++ drop (length lent) head
-      → part ≡ take (length first) first ++ drop (length first) (take (length h₁ - count) (drop count h₁))
-      → h₂ ≡ take count h₁ ++ (part ++ drop (length h₁ - count) (drop count h₁)) → HeadFilled (kept_in bs count) piece h₂ (count + m)
-  filled {h₁} {part} e f g =
-      let kept : Copied k head h₁ = subst (λ (l : List ℕ). Copied l head h₁) (kept-part bs count) e in
-      let more : Copied p (take (length h₁ - count) (drop count h₁)) part =
-      subst (λ (n : ℕ). Copied (take n piece) (take (length h₁ - count) (drop count h₁)) part) (sub-zero m) f in
-      fills (overlaid k p head count k-length kept more g)
+  pub filled : {h part : List ℕ} → h ≡ take (length k) k ++ drop (length k) head
+      → part ≡ take (length p) p ++ drop (length p) (take (length h - length k) (drop (length k) h))
+      → HeadFilled k piece (take (length k) h ++ (part ++ drop (length h - length k) (drop (length k) h))) (length k + m)
+  filled e f = fills (overlaid k p head (length k) refl e f refl)
 
 -- ---- the answers
 
@@ -134,10 +112,17 @@ none-completes piece head = record {
 pub joins-none : (bs piece head : List ℕ) (count : ℕ) → count ≡ 0 → HeadJoins (kept_in bs count) piece head (Whole 0)
 joins-none bs piece head count e = subst (λ (n : ℕ). HeadJoins (kept_in bs n) piece head (Whole 0)) (sym e) (whole-joins 0 (none-completes piece head))
 
-module _ {kept piece head : List ℕ} {n : ℕ} (f : HeadFilled kept piece head n) (r : Record) (e : meaning r ≡ reading_at (take (n - 0) head) 0) where
+module _ (bs : List ℕ) (count : ℕ) {piece head : List ℕ} {n : ℕ} (filling : HeadFilled (take (10 + count - 10) (drop 10 bs)) piece head n)
+    (r : Record) (e : meaning r ≡ reading_at (take n head) 0) where
+  abbrev kept : List ℕ
+  kept = kept_in bs count
+
+  f : HeadFilled kept piece head n
+  f = subst (λ (l : List ℕ). HeadFilled l piece head n) (kept-part bs count) filling
+
   -- what was read of the first bytes of all
   front : reading_at (take n (kept ++ piece)) 0 ≡ meaning r
-  front = sym (e ∙ ap (λ (l : List ℕ). reading_at l 0) (ap (λ (i : ℕ). take i head) (sub-zero n) ∙ f.bytes))
+  front = sym (e ∙ ap (λ (l : List ℕ). reading_at l 0) f.bytes)
 
   -- and how many they are
   front_length : length (take n (kept ++ piece)) ≡ n
@@ -182,9 +167,6 @@ module _ {kept piece head : List ℕ} {n : ℕ} (f : HeadFilled kept piece head 
   none_kept : r ≡ End → length kept ≡ 0
   none_kept g = omega (arith, end-end (take n (kept ++ piece)) 0 (front ∙ ap meaning g), front_length, f.begun)
 
--- and where bytes were kept there is something to read
-pub joins-end : (bs : List ℕ) (count : ℕ) {piece head : List ℕ} {n : ℕ} → HeadFilled (kept_in bs count) piece head n
-    → (r : Record) → meaning r ≡ reading_at (take (n - 0) head) 0
-    → carry_bytes ≤ length bs → count ≤ most_kept → (count ≡ 0 → ⊥) → r ≡ End → HeadJoins (kept_in bs count) piece head (Whole 0)
-joins-end bs count f r e long few some g =
-    absurd (some (omega (arith, none_kept f r e g, length-take-le count (drop 10 bs) (omega (arith, length-drop 10 bs)))))
+  -- and where bytes were kept there is something to read
+  pub joins-end : carry_bytes ≤ length bs → count ≤ most_kept → (count ≡ 0 → ⊥) → r ≡ End → HeadJoins kept piece head (Whole 0)
+  joins-end long few some g = absurd (some (omega (arith, none_kept g, length-take-le count (drop 10 bs) (omega (arith, length-drop 10 bs)))))

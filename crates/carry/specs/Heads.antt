@@ -34,9 +34,3 @@ pub record HeadFilled (kept piece head : List ℕ) (n : ℕ) : Type 0 where
   pub within : n ≤ length (kept ++ piece)
   pub full : n < longest_record → n ≡ length (kept ++ piece)
   pub bytes : take n head ≡ take n (kept ++ piece)
-
--- the lesser of a and b
-pub record Lesser (a b r : ℕ) : Type 0 where
-  pub first : r ≤ a
-  pub second : r ≤ b
-  pub one : r < b → r ≡ a

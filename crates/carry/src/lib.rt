@@ -2,13 +2,13 @@
 // cut put together with the start of the next piece. It knows no store and no engine.
 #![tactic(auto)]
 
-ghost use Rattle.std.specs.Prelude.{◌≡◌, true, ◌+◌, ◌≤◌, length, drop, replicate};
+ghost use Rattle.std.specs.Prelude.{◌≡◌, true, ◌+◌, ◌≤◌, length, drop};
 ghost use Rattle.rules.specs.Bytes.{longest_record, spot_at};
 ghost use Rattle.rules.specs.Carry.{most_kept, waits, carry_bytes, kept_room};
-ghost use Rattle.cells.specs.Decides.{Decides};
-ghost use Rattle.carry.specs.Carries.{kept_in, LaidOut, FormOf, Halts, GoesOn, Brings, CarryPut};
-ghost use Rattle.carry.specs.Heads.{Lesser, HeadFilled, HeadJoins};
+ghost use Rattle.carry.specs.Carries.{kept_in, LaidOut, Halts, GoesOn, Brings, CarryPut};
+ghost use Rattle.carry.specs.Heads.{HeadFilled, HeadJoins};
 
+use rules::Turned;
 use wire::Record;
 
 // Where the number of bytes kept stands, the byte that says whether the stream has stopped, and the first of the bytes kept. The offset is in front.
@@ -30,8 +30,6 @@ pub enum Brought {
     Going(u64, usize),
     // One that an unknown mark stopped: the mark's offset.
     Stopped(u64),
-    // A record that no feed could have left.
-    Unfit,
 }
 
 // What the bytes kept begin, with the piece behind them.
@@ -45,15 +43,17 @@ pub enum Head {
     Unknown,
 }
 
-// Writes the record over zeros, as many as it has bytes. The bytes kept are those of `from` from `at` on.
-fn lay_out(form: &mut [u8], offset: u64, stopped: bool, from: &[u8], at: usize)
-    requires { (length form.old ≡ carry_bytes) × (form.old ≡ replicate carry_bytes 0) × (at ≤ length from.now) × (length from.now ≤ at + kept_room) }
-    ensures { LaidOut (record { offset = offset; kept = drop at from.now; stopped = stopped }) form.new }
+// The record as bytes: what is kept, over zeros.
+fn written(offset: u64, stopped: bool, kept: &[u8]) -> [u8; rules::CARRY_BYTES]
+    requires { length kept.now ≤ kept_room }
+    ensures { LaidOut (record { offset = offset; kept = kept.now; stopped = stopped }) result }
 {
-    cells::put64(form, 0, offset);
-    cells::put8(form, COUNT_AT, (from.len() - at) as u8);
-    cells::put8(form, STOPPED_AT, stopped as u8);
-    cells::copy(&from[at..], &mut form[KEPT_AT..]);
+    let mut form = [0u8; rules::CARRY_BYTES];
+    cells::put64(&mut form, 0, offset);
+    cells::put8(&mut form, COUNT_AT, kept.len() as u8);
+    cells::put8(&mut form, STOPPED_AT, stopped as u8);
+    cells::copy(kept, &mut form[KEPT_AT..]);
+    form
 }
 
 // Writes the record. The bytes kept are those of `from` from `at` on.
@@ -61,101 +61,71 @@ pub fn put(carry: &mut [u8], offset: u64, stopped: bool, from: &[u8], at: usize)
     requires { (carry_bytes ≤ length carry.old) × (at ≤ length from.now) × (length from.now ≤ at + kept_room) }
     ensures { CarryPut carry.old (record { offset = offset; kept = drop at from.now; stopped = stopped }) carry.new }
 {
-    let mut form = [0u8; rules::CARRY_BYTES];
-    lay_out(&mut form, offset, stopped, from, at);
+    let form = written(offset, stopped, &from[at..]);
     cells::copy(&form, carry);
 }
 
-// Whether the bytes lent are the one form of what they say: nothing else stands in them.
-fn is_form(carry: &[u8], offset: u64, count: usize, stopped: bool) -> bool
-    requires { (carry_bytes ≤ length carry.now) × (count ≤ most_kept) }
-    ensures { Decides (FormOf carry.now offset count stopped) result }
-{
-    let mut form = [0u8; rules::CARRY_BYTES];
-    lay_out(
-        &mut form,
-        offset,
-        stopped,
-        &carry[KEPT_AT..KEPT_AT + count],
-        0,
-    );
-    cells::same(&carry[0..rules::CARRY_BYTES], &form)
-}
-
 // A record that says that the stream has stopped: nothing is kept, and both bytes of the mark have come.
-fn judge_stopped(offset: u64, count: usize) -> Brought
-    ensures { Halts offset count result }
+fn judge_stopped(offset: u64, kept: &[u8]) -> Result<Brought, Turned>
+    ensures { Halts offset kept.now result }
 {
-    if count != 0 {
-        return Brought::Unfit;
+    if !kept.is_empty() || u64::MAX - 2 < offset {
+        return Err(Turned::BadCarry);
     }
-    if u64::MAX - 2 < offset {
-        return Brought::Unfit;
-    }
-    Brought::Stopped(offset)
+    Ok(Brought::Stopped(offset))
 }
 
 // A record that says that the stream goes on: what is kept is no whole record, and no mark that is known to be none.
-fn judge_going(carry: &[u8], offset: u64, count: usize) -> Brought
-    requires { (carry_bytes ≤ length carry.now) × (count ≤ most_kept) }
-    ensures { GoesOn carry.now offset count result }
+fn judge_going(offset: u64, kept: &[u8]) -> Result<Brought, Turned>
+    ensures { GoesOn offset kept.now result }
 {
+    let count = kept.len();
     if u64::MAX - offset < count as u64 {
-        return Brought::Unfit;
+        return Err(Turned::BadCarry);
     }
-    let record = wire::next(&carry[KEPT_AT..KEPT_AT + count], 0);
+    let record = wire::next(kept, 0);
     match record {
-        Record::Ask(_, _) => Brought::Unfit,
-        Record::Unknown => Brought::Unfit,
-        Record::Cut => Brought::Going(offset, count),
-        Record::End => Brought::Going(offset, count),
+        Record::Ask(_, _) | Record::Unknown => Err(Turned::BadCarry),
+        Record::Cut | Record::End => Ok(Brought::Going(offset, count)),
     }
 }
 
-// What the bytes lent say.
-pub fn read(carry: &[u8]) -> Brought
+// What the bytes lent say; or they are no record that a feed could have left. They are the one form of what they say: nothing else stands in them.
+pub fn read(carry: &[u8]) -> Result<Brought, Turned>
     ensures { Brings carry.now result }
 {
     if carry.len() < rules::CARRY_BYTES {
-        return Brought::Unfit;
+        return Err(Turned::BadCarry);
     }
     let count = carry[COUNT_AT] as usize;
     if MOST_KEPT < count {
-        return Brought::Unfit;
+        return Err(Turned::BadCarry);
     }
+    let kept = &carry[KEPT_AT..KEPT_AT + count];
     let offset = cells::get64(carry, 0);
     let stopped = carry[STOPPED_AT] == 1;
-    if !is_form(carry, offset, count, stopped) {
-        return Brought::Unfit;
+    if !carry.starts_with(&written(offset, stopped, kept)) {
+        return Err(Turned::BadCarry);
     }
     if offset % 2 == 1 {
-        return Brought::Unfit;
+        return Err(Turned::BadCarry);
     }
     if stopped {
-        judge_stopped(offset, count)
+        judge_stopped(offset, kept)
     } else {
-        judge_going(carry, offset, count)
+        judge_going(offset, kept)
     }
-}
-
-// The lesser of two numbers.
-fn lesser(a: usize, b: usize) -> usize
-    ensures { Lesser a b result }
-{
-    if a < b {
-        return a;
-    }
-    b
 }
 
 // Puts the bytes kept and the first of the piece into the buffer, as many as a record can have, and gives how many they are.
-fn fill_head(carry: &[u8], count: usize, piece: &[u8], head: &mut [u8]) -> usize
-    requires { (carry_bytes ≤ length carry.now) × (count ≤ most_kept) × (length head.old ≡ longest_record) }
-    ensures { HeadFilled (kept_in carry.now count) piece.now head.new result }
+fn fill_head(kept: &[u8], piece: &[u8], head: &mut [u8]) -> usize
+    requires { (length kept.now ≤ most_kept) × (length head.old ≡ longest_record) }
+    ensures { HeadFilled kept.now piece.now head.new result }
 {
-    cells::copy(&carry[KEPT_AT..KEPT_AT + count], head);
-    let more = lesser(piece.len(), HEAD_BYTES - count);
-    cells::copy(&piece[0..more], &mut head[count..]);
+    let count = kept.len();
+    let more = piece.len().min(HEAD_BYTES - count);
+    cells::copy(kept, head);
+    cells::copy(&piece[..more], &mut head[count..]);
     count + more
 }
 
@@ -168,8 +138,8 @@ pub fn join(carry: &[u8], count: usize, piece: &[u8], head: &mut [u8]) -> Head
     if count == 0 {
         return Head::Whole(0);
     }
-    let n = fill_head(carry, count, piece, head);
-    let record = wire::next(&head[0..n], 0);
+    let n = fill_head(&carry[KEPT_AT..KEPT_AT + count], piece, head);
+    let record = wire::next(&head[..n], 0);
     match record {
         Record::Ask(_, after) => Head::Whole(after),
         Record::Unknown => Head::Unknown,

@@ -1,15 +1,15 @@
 -- `carry::read` meets its contract.
 use borrow.Author.Rules.{rules}
-use Rattle.carry.proofs.CarriesLaws.{cast8, unfit-short, unfit-count, unfit-form, unfit_odd, brings_stopped, brings_going}
+use Rattle.carry.proofs.CarriesLaws.{unfit-count, unfit-form, unfit_odd, brings_stopped, brings_going}
 use Rattle.carry.proofs.read.Goals as goal
 
-ruleset laws = (rules, cast8, unfit-short, unfit-count, unfit-form, unfit_odd, brings_stopped, brings_going)
+ruleset laws = (rules, unfit-count, unfit-form, unfit_odd, brings_stopped, brings_going)
 
 pub returns-then-count-gt-MOST_KEPT : goal.returns-then-count-gt-MOST_KEPT
 returns-then-count-gt-MOST_KEPT c = search laws
 
-pub returns-then-not-is_form : goal.returns-then-not-is_form
-returns-then-not-is_form c = search laws
+pub returns-then-not-starts_with : goal.returns-then-not-starts_with
+returns-then-not-starts_with c = search laws
 
 pub returns-then-offset-eq1 : goal.returns-then-offset-eq1
 returns-then-offset-eq1 c = search laws

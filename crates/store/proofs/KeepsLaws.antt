@@ -19,9 +19,11 @@ use Rattle.rules.specs.State.{Entry, State, Queue, Small, Main, with_freq, reval
 use Rattle.rules.proofs.PartsLaws.{length-total}
 use Rattle.rules.proofs.StateLaws.{set-again}
 use Rattle.store.specs.declared.Entry.{Entry as Entry·}
+use Rattle.store.specs.declared.Limit.{Limit}
+use Rattle.store.specs.declared.Limit.TheVariants.{Capacity, Small as SmallLimit, Ghosts}
 use Rattle.store.specs.Holds.{list_no, ghosts_no, entry_at, key_at, state_in, shape_for, Keeps, Becomes}
 use Rattle.store.specs.Entries.{entry_of, GetsEntry, GetsGhost}
-use Rattle.store.specs.Seats.{Seat, Seated, Tail, GhostSeat, GhostSeated, Oldest, CanAttachHead, AttachedHead, CanPushFront, PushedFront}
+use Rattle.store.specs.Seats.{limit_no, limit_in, Seat, Seated, Tail, GhostSeat, GhostSeated, Oldest, CanAttachHead, AttachedHead, CanPushFront, PushedFront}
 use Rattle.store.specs.Seats.{FreqSet, ValueReplaced, EntryRemoved, Reattached, DetachedToGhosts, GhostRemoved, Fronted}
 use Rattle.store.proofs.MapLaws.{map-append, map-length, map-out}
 use Rattle.store.proofs.ShownLaws.{limits-aside, queue-shown, ghosts-shown, moved-main, moved-to-ghosts, moved_ghost, released-queue, released_ghost}
@@ -46,17 +48,11 @@ ghosts-length : (z : Shape) (s : List ℕ) → length (state_in z s).ghosts ≡ 
 ghosts-length z s = ap length (ghosts-shown z s) ∙ map-length (key_at (cols z s)) (lists_of z (cols z s) ghosts_no)
 
 module _ {z : Shape} {s : List ℕ} where
-  pub capacity-is : {r : ℕ} → GetsField z s Head 0 r → r ≡ (state_in z s).limits.capacity
+  pub limit-is : (which : Limit) {n r : ℕ} → n ≡ limit_no which → GetsField z s Head n r → r ≡ limit_in which (state_in z s)
   unfolding state_in
-  capacity-is g = g.value
-
-  pub small-limit-is : {r : ℕ} → GetsField z s Head 1 r → r ≡ (state_in z s).limits.small_limit
-  unfolding state_in
-  small-limit-is g = g.value
-
-  pub ghost_limit-is : {r : ℕ} → GetsField z s Head 2 r → r ≡ (state_in z s).limits.ghost_limit
-  unfolding state_in
-  ghost_limit-is g = g.value
+  limit-is Capacity e g = rw e at g.value
+  limit-is SmallLimit e g = rw e at g.value
+  limit-is Ghosts e g = rw e at g.value
 
   pub length-is : Keeps z s → (q : Queue) {t n : ℕ} → t ≡ list_no q → GetsField z s Head (4 + t) n → n ≡ length (queue_of q (state_in z s))
   length-is k q e g = pooled-length k.pooled (kind q) (rw e at g) ∙ sym (queue-length z s q)
@@ -225,15 +221,6 @@ module _ {z : Shape} {s s' : List ℕ} (k : Keeps z s) (n : length s' ≡ length
             ∙ ap (λ (e : Entry). put_at q (map (entry_at (cols z s)) h.front) (with_freq v e ∷ []) (map (entry_at (cols z s)) h.back) (state_in z s)) h.here
             ∙ ap₂ (λ l r. put_at q l (with_freq v y ∷ []) r (state_in z s)) h.before h.after);
       }
-
--- ---- to Main's head from Main
-
-module _ {z : Shape} {s : List ℕ} {t x : ℕ} (e : t ≡ list_no Main) where
-  pub move_in_main : CanMove z s t (list_no Main) x → CanMove z s t t x
-  move_in_main k = subst (λ (u : ℕ). CanMove z s t u x) (sym e) k
-
-  pub moved_in_main : {s' : List ℕ} → Moved z s s' t t x → Moved z s s' t (list_no Main) x
-  moved_in_main {s'} m = subst (λ (u : ℕ). Moved z s s' t u x) e m
 
 -- ---- one move after the other
 

@@ -1,5 +1,4 @@
 pub mod MapLaws
-pub mod EntriesLaws
 pub mod ShownLaws
 pub mod LookLaws
 pub mod KeepsLaws

@@ -12,8 +12,7 @@ use Rattle.nodes.specs.Nodes.{Key, Queue as Tag, Cols, cols, GetsField}
 use Rattle.nodes.specs.declared.Shape.{Shape}
 use Rattle.cells.specs.Members.{Among}
 use Rattle.key_index.specs.Stored.{Hit, Miss, IsFound}
-use Rattle.key_index.specs.declared.Found.{Found}
-use Rattle.key_index.specs.declared.Found.TheVariants.{At, Nothing}
+use Rattle.std.specs.Prelude.{Option, Some, None}
 use Rattle.lists.specs.Lists.{list_count}
 use Rattle.pool.specs.Carries.{lists_of, Pooled, LiveList}
 use Rattle.pool.proofs.CarriesLaws.{lives-kind, lives-among, among-miss}
@@ -116,11 +115,11 @@ module _ {z : Shape} {s : List ℕ} (h : Held z s) where
             ∙ ap (λ y. found (map (key_at (cols z s)) a.front) y (map (key_at (cols z s)) a.back)) e;
       }
 
-  module _ {k : ℕ} {r : Found} (f : IsFound z (cols z s) k r) where
-    pub look_node : {x : ℕ} → r ≡ At x → x < z.room + 4
+  module _ {k : ℕ} {r : Option ℕ} (f : IsFound z (cols z s) k r) where
+    pub look_node : {x : ℕ} → r ≡ Some x → x < z.room + 4
     look_node {x} e = omega (arith, (f.hit x e).lives.below)
 
-    module _ {x : ℕ} (e : r ≡ At x) {t : ℕ} (g : GetsField z s Tag x t) where
+    module _ {x : ℕ} (e : r ≡ Some x) {t : ℕ} (g : GetsField z s Tag x t) where
       hit : Hit z (cols z s) k x
       hit = f.hit x e
 
@@ -141,8 +140,8 @@ module _ {z : Shape} {s : List ℕ} (h : Held z s) where
           same-node : {p : QueueKind} {y : ℕ} → Resident q x ≡ Resident p y → x ≡ y
           same-node w = cc
 
-      pub look_small : (t ≡ ghosts_no → ⊥) → t ≡ list_no Small → Looks z s k (Resident Small· x)
-      look_small n e = at-list Small· e
+      pub look_small : t ≡ list_no Small → Looks z s k (Resident Small· x)
+      look_small e = at-list Small· e
 
       pub look_main : (t ≡ ghosts_no → ⊥) → (t ≡ list_no Small → ⊥) → Looks z s k (Resident Main· x)
       look_main n m = at-list Main· (let w = lives-kind pool.carries hit.lives g.value in omega (arith, w.above, w.below))
@@ -158,7 +157,7 @@ module _ {z : Shape} {s : List ℕ} (h : Held z s) where
           same-node : {y : ℕ} → Ghost x ≡ Ghost y → x ≡ y
           same-node q = cc
 
-    pub look_absent : r ≡ Nothing → Looks z s k Absent
+    pub look_absent : r ≡ None → Looks z s k Absent
     look_absent e =
         record {
           resident = λ p y q. let b : ◌≡◌ {A = ℕ} 0 1 = cc in absurd (omega arith);

@@ -4,15 +4,29 @@ use Rattle.std.specs.Prelude.{◌≡◌, List, [], ◌∷◌, ◌++◌, map, ℕ
 use Rattle.nodes.specs.Nodes.{cols}
 use Rattle.nodes.specs.declared.Shape.{Shape}
 use Rattle.pool.specs.Carries.{lists_of}
-use Rattle.rules.specs.State.{Entry, Queue, Small, Main, fresh, with_freq, revalue, set_queue, set_ghosts, push_to, put_at, residents, places}
+use Rattle.rules.specs.State.{Entry, State, Queue, Small, Main, fresh, with_freq, revalue, set_queue, set_ghosts, push_to, put_at, residents, places}
 use Rattle.store.specs.declared.QueueKind.{QueueKind}
 use Rattle.store.specs.declared.QueueKind.TheVariants.{Small as Small·, Main as Main·}
+use Rattle.store.specs.declared.Limit.{Limit}
+use Rattle.store.specs.declared.Limit.TheVariants.{Capacity, Small as SmallLimit, Ghosts}
 use Rattle.store.specs.Holds.{list_no, ghosts_no, entry_at, key_at, state_in, Becomes}
 
 -- the queue that the code's is
 abbrev pub queue_kind : QueueKind → Queue
 queue_kind Small· = Small
 queue_kind Main· = Main
+
+-- the header's cell of a limit
+abbrev pub limit_no : Limit → ℕ
+limit_no Capacity = 0
+limit_no SmallLimit = 1
+limit_no Ghosts = 2
+
+-- the limit of a state that the code's names
+abbrev pub limit_in : Limit → State → ℕ
+limit_in Capacity σ = σ.limits.capacity
+limit_in SmallLimit σ = σ.limits.small_limit
+limit_in Ghosts σ = σ.limits.ghost_limit
 
 -- the node x carries the entry e of the queue q, with the entries b before it and a after it
 pub record Seat (z : Shape) (s : List ℕ) (q : Queue) (x : ℕ) (b : List Entry) (e : Entry) (a : List Entry) : Type 0 where

@@ -13,12 +13,11 @@ ghost use Rattle.rules.specs.Refusals.{store_bytes};
 ghost use Rattle.sizing.specs.Answers.{the_limits_of};
 ghost use Rattle.store.specs.Holds.{list_no, state_in, shape_for, Keeps, Held};
 ghost use Rattle.store.specs.Entries.{GetsEntry, GetsGhost, HoldsResident};
-ghost use Rattle.store.specs.Seats.{queue_kind, Seated, Tail, GhostSeated, Oldest, CanAttachHead, AttachedHead, CanPushFront, PushedFront};
+ghost use Rattle.store.specs.Seats.{queue_kind, limit_in, Seated, Tail, GhostSeated, Oldest, CanAttachHead, AttachedHead, CanPushFront, PushedFront};
 ghost use Rattle.store.specs.Seats.{FreqSet, ValueReplaced, EntryRemoved, Reattached, DetachedToGhosts, GhostRemoved, Fronted};
 ghost use Rattle.store.specs.Looks.{Looks};
 ghost use Rattle.store.specs.Created.{Limited, SetUp, Stated};
 
-use key_index::Found;
 pub use nodes::Shape;
 use rules::{GuestBlock, PhysicalBlock};
 use sizing::Limits;
@@ -46,12 +45,13 @@ pub enum Lookup {
     Absent,
 }
 
-// The header's cells for the limits.
-const CAPACITY: usize = 0;
-
-const SMALL_LIMIT: usize = 1;
-
-const GHOST_LIMIT: usize = 2;
+// The limits, by the number of the header's cell that each one has.
+#[derive(Clone, Copy)]
+pub enum Limit {
+    Capacity = 0,
+    Small = 1,
+    Ghosts = 2,
+}
 
 // The number of a queue's list.
 fn list_of(q: QueueKind) -> usize
@@ -64,25 +64,12 @@ fn list_of(q: QueueKind) -> usize
     }
 }
 
-pub fn capacity_of(s: &[u8], z: Shape) -> u64
+// One of the limits.
+pub fn limit_of(s: &[u8], z: Shape, which: Limit) -> u64
     requires { Keeps z s.now }
-    ensures { result ≡ (state_in z s.now).limits.capacity }
+    ensures { result ≡ limit_in which (state_in z s.now) }
 {
-    nodes::head_of(s, z, CAPACITY)
-}
-
-pub fn small_limit_of(s: &[u8], z: Shape) -> u64
-    requires { Keeps z s.now }
-    ensures { result ≡ (state_in z s.now).limits.small_limit }
-{
-    nodes::head_of(s, z, SMALL_LIMIT)
-}
-
-pub fn ghost_limit_of(s: &[u8], z: Shape) -> u64
-    requires { Keeps z s.now }
-    ensures { result ≡ (state_in z s.now).limits.ghost_limit }
-{
-    nodes::head_of(s, z, GHOST_LIMIT)
+    nodes::head_of(s, z, which as usize)
 }
 
 // How many entries a queue has.
@@ -93,6 +80,8 @@ pub fn len_of(s: &[u8], z: Shape, q: QueueKind) -> u64
     lists::length_of(s, z, list_of(q))
 }
 
+// How many ghosts there are. A queue holds entries and the ghost list keys, so that what is said of the state is not one thing for both: one function for
+// all three lists would ask which it is in its clauses. So it is with `oldest_of`.
 pub fn ghost_len(s: &[u8], z: Shape) -> u64
     requires { Keeps z s.now }
     ensures { result ≡ length (state_in z s.now).ghosts }
@@ -121,19 +110,13 @@ pub fn look(s: &[u8], z: Shape, k: GuestBlock) -> Lookup
     requires { Held z s.now }
     ensures { Looks z s.now k.0 result }
 {
-    let found = key_index::find(s, z, k.0);
-    match found {
-        Found::At(x) => {
-            let t = nodes::queue_of(s, z, x);
-            if t == lists::GHOSTS {
-                return Lookup::Ghost(x);
-            }
-            if t == lists::SMALL {
-                return Lookup::Resident(QueueKind::Small, x);
-            }
-            Lookup::Resident(QueueKind::Main, x)
-        }
-        Found::Nothing => Lookup::Absent,
+    let Some(x) = key_index::find(s, z, k.0) else {
+        return Lookup::Absent;
+    };
+    match nodes::queue_of(s, z, x) {
+        lists::GHOSTS => Lookup::Ghost(x),
+        lists::SMALL => Lookup::Resident(QueueKind::Small, x),
+        _ => Lookup::Resident(QueueKind::Main, x),
     }
 }
 
@@ -163,10 +146,7 @@ pub fn holds_resident(s: &[u8], z: Shape, x: usize) -> bool
     ensures { Decides (HoldsResident z s.now x) result }
 {
     let list = nodes::queue_of(s, z, x);
-    if list == lists::SMALL {
-        return true;
-    }
-    list == lists::MAIN
+    list == lists::SMALL || list == lists::MAIN
 }
 
 // Whether the lists and the index of bytes that nobody vouches for are as they should be.
@@ -280,9 +260,9 @@ fn set_limits(s: &mut [u8], z: Shape, limits: Limits)
     requires { Room z s.old }
     ensures { Limited z s.old s.new (the_limits_of limits) }
 {
-    nodes::set_head(s, z, CAPACITY, limits.capacity);
-    nodes::set_head(s, z, SMALL_LIMIT, limits.small_limit);
-    nodes::set_head(s, z, GHOST_LIMIT, limits.ghost_limit);
+    nodes::set_head(s, z, Limit::Capacity as usize, limits.capacity);
+    nodes::set_head(s, z, Limit::Small as usize, limits.small_limit);
+    nodes::set_head(s, z, Limit::Ghosts as usize, limits.ghost_limit);
 }
 
 // Creates a store with these limits from any bytes: it holds the empty state.
@@ -305,8 +285,8 @@ pub fn limits_of(s: &[u8]) -> Limits
         buckets: 1,
     };
     Limits {
-        capacity: nodes::head_of(s, least, CAPACITY),
-        small_limit: nodes::head_of(s, least, SMALL_LIMIT),
-        ghost_limit: nodes::head_of(s, least, GHOST_LIMIT),
+        capacity: nodes::head_of(s, least, Limit::Capacity as usize),
+        small_limit: nodes::head_of(s, least, Limit::Small as usize),
+        ghost_limit: nodes::head_of(s, least, Limit::Ghosts as usize),
     }
 }

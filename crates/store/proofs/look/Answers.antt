@@ -5,17 +5,17 @@ use Rattle.store.proofs.look.Goals as goal
 
 ruleset laws = (rules, look_node, look_small, look_main, look_ghost, look_absent)
 
-pub queue_of-t-requires : goal.queue_of-t-requires
-queue_of-t-requires c = search laws
+pub queue_of-requires : goal.queue_of-requires
+queue_of-requires c = search laws
 
-pub returns-then-t-eq-GHOSTS : goal.returns-then-t-eq-GHOSTS
-returns-then-t-eq-GHOSTS c = search laws
+pub returns-in_default : goal.returns-in_default
+returns-in_default c = search laws
 
-pub returns-then-t-eq-SMALL : goal.returns-then-t-eq-SMALL
-returns-then-t-eq-SMALL c = search laws
+pub returns-in-3 : goal.returns-in-3
+returns-in-3 c = search laws
 
-pub returns-else-t-eq-SMALL : goal.returns-else-t-eq-SMALL
-returns-else-t-eq-SMALL c = search laws
+pub returns-in-1 : goal.returns-in-1
+returns-in-1 c = search laws
 
-pub returns-in-Nothing : goal.returns-in-Nothing
-returns-in-Nothing c = search laws
+pub returns-in_default-queue_of : goal.returns-in_default-queue_of
+returns-in_default-queue_of c = search laws

@@ -1,13 +1,13 @@
 -- What the soundness check decides, and its parts.
 -- Assumes nothing.
-use Rattle.std.specs.Prelude.{◌≡◌, List, ℕ, ◌≤◌, length}
+use Rattle.std.specs.Prelude.{◌≡◌, List, ℕ, ◌≤◌, length, Result, Ok, Err}
 use Rattle.nodes.specs.Nodes.{cols}
 use Rattle.nodes.specs.declared.Shape.{Shape}
 use Rattle.rules.specs.State.{State, max_freq, residents, Fine}
+use Rattle.rules.specs.declared.Turned.{Turned}
+use Rattle.rules.specs.declared.Turned.TheVariants.{DamagedStore}
 use Rattle.store.specs.Holds.{entry_at, limits_in, shape_for, Held, Holds}
 use Rattle.store.specs.Entries.{HoldsResident}
-use Rattle.soundness.specs.declared.Checked.{Checked}
-use Rattle.soundness.specs.declared.Checked.TheVariants.{Sound, Damaged}
 
 -- ---- the check's parts
 
@@ -27,7 +27,8 @@ pub record Cool (z : Shape) (s : List ℕ) (x : ℕ) : Type 0 where
 
 -- ---- the whole
 
--- the answer r on the bytes s: sound only where they hold a state, at the shape that is named, and damaged only where they hold none
-pub record Checks (s : List ℕ) (r : Checked) : Type 0 where
-  pub sound : (z : Shape) → r ≡ Sound z → Held z s
-  pub damaged : r ≡ Damaged → (σ : State) → Holds s σ → ⊥
+-- the answer r on the bytes s: a shape only where they hold a state at it, and a refusal, which says damaged, only where they hold none
+pub record Checks (s : List ℕ) (r : Result Shape Turned) : Type 0 where
+  pub sound : (z : Shape) → r ≡ Ok z → Held z s
+  pub refusal : (e : Turned) → r ≡ Err e → e ≡ DamagedStore
+  pub damaged : (e : Turned) → r ≡ Err e → (σ : State) → Holds s σ → ⊥

@@ -11,30 +11,18 @@ ghost use Rattle.sizing.specs.Answers.{the_limits_of};
 ghost use Rattle.store.specs.Holds.{state_in, Keeps, Held};
 ghost use Rattle.soundness.specs.Checks.{Shaped, Few, Cool, Checks};
 
+use rules::Turned;
 use sizing::Limits;
-use store::{QueueKind, Shape};
-
-// What a store was found to be: sound, with its numbers of nodes and buckets, or damaged.
-#[derive(Clone, Copy)]
-pub enum Checked {
-    Sound(Shape),
-    Damaged,
-}
+use store::{Limit, QueueKind, Shape};
 
 // Whether limits, which may be any numbers, are those of a sound state.
 fn limits_fine(limits: Limits) -> bool
     ensures { Decides (Fine (the_limits_of limits)) result }
 {
-    if limits.capacity == 0 {
-        return false;
-    }
-    if rules::MOST < limits.capacity {
-        return false;
-    }
-    if limits.capacity < limits.small_limit {
-        return false;
-    }
-    limits.ghost_limit <= rules::MOST
+    limits.capacity != 0
+        && limits.capacity <= rules::MOST
+        && limits.small_limit <= limits.capacity
+        && limits.ghost_limit <= rules::MOST
 }
 
 // Whether residents and ghosts are no more than the limits allow. What is left of the capacity after Small is compared with Main, so that no sum overflows.
@@ -42,17 +30,12 @@ fn few_enough(s: &[u8], z: Shape) -> bool
     requires { Keeps z s.now }
     ensures { Decides (Few (state_in z s.now)) result }
 {
-    let capacity = store::capacity_of(s, z);
+    let capacity = store::limit_of(s, z, Limit::Capacity);
     let small = store::len_of(s, z, QueueKind::Small);
-    if capacity < small {
-        return false;
-    }
     let main = store::len_of(s, z, QueueKind::Main);
-    if capacity - small < main {
-        return false;
-    }
-    let ghost_limit = store::ghost_limit_of(s, z);
-    store::ghost_len(s, z) <= ghost_limit
+    small <= capacity
+        && main <= capacity - small
+        && store::ghost_len(s, z) <= store::limit_of(s, z, Limit::Ghosts)
 }
 
 // Whether node x, if it is a resident's, has a frequency of 3 at most. The frequencies of ghosts and of free nodes are of no account.
@@ -61,10 +44,7 @@ fn is_cool(s: &[u8], z: Shape, x: usize) -> bool
     ensures { Decides (Cool z s.now x) result }
 {
     let entry = store::entry_at(s, z, x);
-    if entry.freq <= rules::MAX_FREQ as usize {
-        return true;
-    }
-    !store::holds_resident(s, z, x)
+    entry.freq <= rules::MAX_FREQ as usize || !store::holds_resident(s, z, x)
 }
 
 // Whether every node is so.
@@ -72,12 +52,10 @@ fn all_cool(s: &[u8], z: Shape) -> bool
     requires { Room z s.now }
     ensures { Decides (All (Cool z s.now) z.room) result }
 {
-    let mut x = 0;
-    while x < z.room {
+    for x in 0..z.room {
         if !is_cool(s, z, x) {
             return false;
         }
-        x += 1;
     }
     true
 }
@@ -87,27 +65,21 @@ fn is_held(s: &[u8], z: Shape) -> bool
     requires { Room z s.now × Shaped z s.now }
     ensures { Decides (Held z s.now) result }
 {
-    if !store::check_lists_and_index(s, z) {
-        return false;
-    }
-    if !few_enough(s, z) {
-        return false;
-    }
-    all_cool(s, z)
+    store::check_lists_and_index(s, z) && few_enough(s, z) && all_cool(s, z)
 }
 
-// What the bytes of a store are. Only their number is asked for.
-pub fn check(s: &[u8]) -> Checked
+// The numbers of nodes and buckets of a sound store, or that it is damaged. Only the number of its bytes is asked for.
+pub fn check(s: &[u8]) -> Result<Shape, Turned>
     requires { store_bytes ≤ length s.now }
     ensures { Checks s.now result }
 {
     let limits = store::limits_of(s);
     if !limits_fine(limits) {
-        return Checked::Damaged;
+        return Err(Turned::DamagedStore);
     }
     let z = store::shape_of(limits);
     if !is_held(s, z) {
-        return Checked::Damaged;
+        return Err(Turned::DamagedStore);
     }
-    Checked::Sound(z)
+    Ok(z)
 }

@@ -1,15 +1,11 @@
 -- `soundness::few_enough` meets its contract: what the lengths say of the state.
-use borrow.Author.Rules.{rules}
-use Rattle.soundness.proofs.CheckLaws.{small_crowded, main_crowded, few_decides}
+use Rattle.std.proofs.lemmas.Grind.{common_steps}
+use Rattle.std.proofs.Common.{arith}
+use Rattle.soundness.proofs.CheckLaws.{sums}
 use Rattle.soundness.proofs.few_enough.Goals as goal
 
-ruleset laws = (rules, small_crowded, main_crowded, few_decides)
+pub returns-then-main-capacity : goal.returns-then-main-capacity
+returns-then-main-capacity c = grind (arith, common_steps, sums)
 
-pub returns-then-capacity-small : goal.returns-then-capacity-small
-returns-then-capacity-small c = search laws
-
-pub returns-then-capacity-small-2 : goal.returns-then-capacity-small-2
-returns-then-capacity-small-2 c = search laws
-
-pub returns : goal.returns
-returns c = search laws
+pub returns-else-main-capacity : goal.returns-else-main-capacity
+returns-else-main-capacity c = grind (arith, common_steps, sums)

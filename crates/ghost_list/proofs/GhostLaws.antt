@@ -8,7 +8,8 @@ use Prim.Native.Nat.{ℕ, suc, ◌≤◌, ◌<◌}
 use native.Mathlib.Omega.{arith}
 use lib.Dec.{eqb, ltb}
 use lib.ListN.{length}
-use borrow.Author.Tests.{eq-eqb, lt-ltb, le-ltb, ltb-true, ltb-false}
+use borrow.Author.Tests.{eq-eqb, ltb-true, ltb-false}
+use Rattle.std.specs.Prelude.{Option, Some, None}
 use Rattle.nodes.specs.declared.Shape.{Shape}
 use Rattle.rules.specs.declared.GuestBlock.{GuestBlock}
 use Rattle.rules.specs.Parts.{bit, total, missing, split_by}
@@ -27,8 +28,6 @@ use Rattle.store.specs.declared.Lookup.TheVariants.{Resident, Ghost, Absent}
 use Rattle.store.specs.Seats.{queue_kind, Seat, Tail, Oldest, DetachedToGhosts, GhostRemoved, Fronted, CanPushFront, PushedFront}
 use Rattle.store.specs.Looks.{Lacks, Looks}
 use Rattle.store.proofs.KeepsLaws.{ghost_key, ghost_seat-ghosts, seat-queue, becomes_then}
-use Rattle.ghost_list.specs.declared.Given.{Given as Given·}
-use Rattle.ghost_list.specs.declared.Given.TheVariants.{Key, Nothing}
 use Rattle.ghost_list.specs.Ghosts.{Gave, Recorded, Lost, RoomMade, Trimmed, Took, Emptied, RecordedTail}
 
 -- the ghosts of the state that a store reads as, and their limit
@@ -57,12 +56,12 @@ lru_none : (g : List ℕ) → g ≡ [] → evict_lru g ≡ keeps g
 unfolding evict_lru
 lru_none g h = rw h
 
-pub lost_none : {z : Shape} {s : List ℕ} → Keeps z s → {n : ℕ} → n ≡ length (ghosts_in z s) → n ≡ 0 → Lost z s s Nothing
+pub lost_none : {z : Shape} {s : List ℕ} → Keeps z s → {n : ℕ} → n ≡ length (ghosts_in z s) → n ≡ 0 → Lost z s s None
 lost_none {z} {s} k e h =
     let w = lru_none (ghosts_in z s) (nil (ghosts_in z s) (sym e ∙ h)) in
     record { gave = record { becomes = rw w (same-ghosts z s k); back = rw w } }
 
-pub lost_last : {z : Shape} {s s' : List ℕ} {x : ℕ} → Oldest z s x → {k : GuestBlock} → GetsGhost z s x k → GhostRemoved z s s' x → Lost z s s' (Key k)
+pub lost_last : {z : Shape} {s s' : List ℕ} {x : ℕ} → Oldest z s x → {k : GuestBlock} → GetsGhost z s x k → GhostRemoved z s s' x → Lost z s s' (Some k)
 lost_last {z} {s} {s'} {x} o {k} r m =
     let w : evict_lru (ghosts_in z s) ≡ record { ghosts = o.before; back = some o.key } =
     ap evict_lru (ghost_seat-ghosts z s o.seat) ∙ lru_last o.before o.key in
@@ -89,41 +88,46 @@ module _ {z : Shape} {s : List ℕ} {k : ℕ} where
       record { becomes = rw w (same-ghosts z s p); was = rw w }
 
   -- a resident key is no ghost
-  pub took_resident : Held z s → {r : Lookup} → Looks z s k r → {q : QueueKind} {x : ℕ} → r ≡ Resident q x → Took z s s k false
+  took_resident : Held z s → {r : Lookup} → Looks z s k r → {q : QueueKind} {x : ℕ} → r ≡ Resident q x → Took z s s k false
   took_resident h l {q} {x} e =
       let t = l.resident q x e in
       let m = in-queue (queue_kind q) (state_in z s) t.before t.entry t.after (seat-queue z s t.seat) in
       not_there h.keeps (omega (arith, h.sound.once k, m (λ y. bit (key_is k y)), ap bit (eq-eqb k t.entry.key (sym t.key))))
 
-  pub took_absent : Held z s → {r : Lookup} → Looks z s k r → r ≡ Absent → Took z s s k false
+  took_absent : Held z s → {r : Lookup} → Looks z s k r → r ≡ Absent → Took z s s k false
   took_absent h l e = not_there h.keeps (omega (arith, (l.absent e).none))
+
+  pub took_elsewhere : Held z s → {r : Lookup} → Looks z s k r → ((x : ℕ) → r ≡ Ghost x → ⊥) → Took z s s k false
+  took_elsewhere h {r = Resident q x} l n = took_resident h l refl
+  took_elsewhere h {r = Ghost x} l n = absurd (n x refl)
+  took_elsewhere h {r = Absent} l n = took_absent h l refl
 
 -- ---- record
 
 module _ {z : Shape} {s : List ℕ} (k : ℕ) where
-  recorded : {s' : List ℕ} {r : Given·} (w : Given) → record_ghost (ghost_limit_in z s) k (ghosts_in z s) ≡ w → Gave z s s' w r → Recorded z s s' k r
+  recorded : {s' : List ℕ} {r : Option GuestBlock} (w : Given) → record_ghost (ghost_limit_in z s) k (ghosts_in z s) ≡ w → Gave z s s' w r → Recorded z s s' k r
   recorded w e g = record { gave = rw e g }
 
-  pub recorded-zero : Held z s → {n : ℕ} → n ≡ ghost_limit_in z s → n ≡ 0 → Recorded z s s k Nothing
+  pub recorded-zero : Held z s → {n : ℕ} → n ≡ ghost_limit_in z s → n ≡ 0 → Recorded z s s k None
   recorded-zero h e q =
       recorded (keeps (ghosts_in z s)) (record-zero (ghost_limit_in z s) k (ghosts_in z s) (sym e ∙ q))
       (record { becomes = same-ghosts z s h.keeps; back = refl })
 
   module _ {n : ℕ} (e : n ≡ ghost_limit_in z s) (some : n ≡ 0 → ⊥) {r : Lookup} (l : Looks z s k r) where
-    pub recorded-there : {s' : List ℕ} {x : ℕ} → r ≡ Ghost x → Fronted z s s' x → Recorded z s s' k Nothing
+    pub recorded-there : {s' : List ℕ} {x : ℕ} → r ≡ Ghost x → Fronted z s s' x → Recorded z s s' k None
     recorded-there {s'} {x} q m =
         let h = l.is_ghost x q in
         recorded (keeps (k ∷ (h.before ++ h.after))) (record-there (ghost_limit_in z s) k (ghosts_in z s) h.before k h.after (omega arith) h.split_is)
         (record { becomes = m.of h.before k h.after h.seat; back = refl })
 
     -- a key that is resident is not recorded
-    pub not-resident : keyed k (state_in z s) ≡ 0 → {q : QueueKind} {x : ℕ} → r ≡ Resident q x → Recorded z s s k Nothing
+    pub not-resident : keyed k (state_in z s) ≡ 0 → {q : QueueKind} {x : ℕ} → r ≡ Resident q x → Recorded z s s k None
     not-resident nil {q} {x} w =
         let t = l.resident q x w in
         let m = in-queue (queue_kind q) (state_in z s) t.before t.entry t.after (seat-queue z s t.seat) (λ y. bit (key_is k y)) in
         absurd (omega (arith, nil, m, ap bit (eq-eqb k t.entry.key (sym t.key))))
 
-  module _ (h : Held z s) (lack : Lacks z s k) (some : 1 ≤ ghost_limit_in z s) {s₁ : List ℕ} {r : Given·} (g : RoomMade z s s₁ r) where
+  module _ (h : Held z s) (lack : Lacks z s k) (some : 1 ≤ ghost_limit_in z s) {s₁ : List ℕ} {r : Option GuestBlock} (g : RoomMade z s s₁ r) where
     missing-is : split_by (eqb k) (ghosts_in z s) ≡ missing
     missing-is = split-none (eqb k) (ghosts_in z s) (omega (arith, lack.none))
 
@@ -153,22 +157,6 @@ module _ {z : Shape} {s : List ℕ} (k : ℕ) where
     recorded-new b =
         recorded _ (by_test (ltb (length (ghosts_in z s)) (ghost_limit_in z s)) refl)
         (record { becomes = becomes_then g.gave.becomes (rw g.gave.becomes.state at b.becomes); back = g.gave.back })
-
--- ---- make_room and trim
-
-module _ {z : Shape} {s : List ℕ} {n m : ℕ} (e : n ≡ length (ghosts_in z s)) (q : m ≡ ghost_limit_in z s) where
-  pub made_none : Keeps z s → n < m → RoomMade z s s Nothing
-  made_none k l =
-      record { gave = rw (lt-ltb (length (ghosts_in z s)) (ghost_limit_in z s) (omega arith)) (record { becomes = same-ghosts z s k; back = refl }) }
-
-  pub made_lost : m ≤ n → {s' : List ℕ} {r : Given·} → Lost z s s' r → RoomMade z s s' r
-  made_lost l g = record { gave = rw (le-ltb (length (ghosts_in z s)) (ghost_limit_in z s) (omega arith)) g.gave }
-
-  pub trimmed-none : Keeps z s → n ≤ m → Trimmed z s s
-  trimmed-none k l = record { becomes = rw (le-ltb (ghost_limit_in z s) (length (ghosts_in z s)) (omega arith)) (same-ghosts z s k) }
-
-  pub trimmed_lost : m < n → {s' : List ℕ} {r : Given·} → Lost z s s' r → Trimmed z s s'
-  trimmed_lost l g = record { becomes = rw (lt-ltb (ghost_limit_in z s) (length (ghosts_in z s)) (omega arith)) g.gave.becomes }
 
 -- ---- record_tail
 
@@ -217,12 +205,12 @@ pub clearing_start : {z : Shape} {s : List ℕ} → Keeps z s → Clearing z s s
 clearing_start k = record { keeps = k; state = refl; rest = refl; same = refl }
 
 module _ {z : Shape} {s₀ s : List ℕ} (c : Clearing z s₀ s) where
-  pub clearing_next : {s₁ : List ℕ} {r : Given·} → Lost z s s₁ r → length s₁ ≡ length s → Clearing z s₀ s₁
+  pub clearing_next : {s₁ : List ℕ} {r : Option GuestBlock} → Lost z s s₁ r → length s₁ ≡ length s → Clearing z s₀ s₁
   clearing_next g n =
       let b = g.gave.becomes in
       record { keeps = b.keeps; state = ap (set_ghosts []) b.state ∙ c.state; rest = b.rest ∙ c.rest; same = n ∙ c.same }
 
-  pub clearing_less : {n : ℕ} → n ≡ length (ghosts_in z s) → 0 < n → {s₁ : List ℕ} {r : Given·} → Lost z s s₁ r → ghosts_left z s₁ < ghosts_left z s
+  pub clearing_less : {n : ℕ} → n ≡ length (ghosts_in z s) → 0 < n → {s₁ : List ℕ} {r : Option GuestBlock} → Lost z s s₁ r → ghosts_left z s₁ < ghosts_left z s
   unfolding ghosts_left
   clearing_less e h g = omega (arith, ap (λ (y : State). length y.ghosts) g.gave.becomes.state, lru_less (ghosts_in z s))
 

@@ -7,7 +7,9 @@ use Prim.Native.Nat.{ℕ, zero, suc, ◌+◌, ◌≤◌, ◌<◌}
 use native.Mathlib.Omega.{arith}
 use lib.Dec.{eqb}
 use borrow.Author.Tests.{eq-eqb, eqb-true}
+use Rattle.std.specs.Prelude.{Option}
 use Rattle.nodes.specs.declared.Shape.{Shape}
+use Rattle.rules.specs.declared.GuestBlock.{GuestBlock}
 use Rattle.rules.specs.Parts.{bit, total, Split, missing, found, split_by}
 use Rattle.rules.specs.State.{Limits, State, words, set_ghosts, keyed, wide, residents, Sound}
 use Rattle.rules.specs.Ghosts.{without, record_ghost, remove_ghost}
@@ -16,8 +18,7 @@ use Rattle.rules.proofs.GhostsLaws.{drop-total, record-total, record-length, lru
 use Rattle.rules.proofs.SoundLaws.{Lessened, kept-sound, narrow_wide}
 use Rattle.store.specs.Holds.{state_in, shape_for, Held, Becomes}
 use Rattle.store.specs.Created.{SetUp}
-use Rattle.ghost_list.specs.declared.Given.{Given as Given·}
-use Rattle.ghost_list.specs.Ghosts.{Recorded, Lost, Took, Emptied, GhostsAlone}
+use Rattle.ghost_list.specs.Ghosts.{Recorded, Lost, Took, GhostsAlone}
 
 -- ---- fewer ghosts
 
@@ -83,17 +84,14 @@ module _ {z : Shape} {s s' : List ℕ} where
   held-less : {g : List ℕ} → Held z s → Becomes z s s' (set_ghosts g (state_in z s)) → ((f : ℕ → ℕ) → total f g ≤ total f (state_in z s).ghosts) → Held z s'
   held-less {g} h b l = held_with b (kept-sound (fewer-ghosts (state_in z s) g l) h.sound)
 
-  pub recorded-held : {k : ℕ} {r : Given·} → Held z s → keyed k (state_in z s) ≡ 0 → k < words → Recorded z s s' k r → Held z s'
+  pub recorded-held : {k : ℕ} {r : Option GuestBlock} → Held z s → keyed k (state_in z s) ≡ 0 → k < words → Recorded z s s' k r → Held z s'
   recorded-held {k} h n w g = held_with g.gave.becomes (record-sound (state_in z s) k n h.sound w)
 
   pub took_held : {k : ℕ} {r : Bool} → Held z s → Took z s s' k r → Held z s'
   took_held {k} h t = held-less h t.becomes (λ f. remove_total f k (state_in z s).ghosts)
 
-  pub lost_held : {r : Given·} → Held z s → Lost z s s' r → Held z s'
+  pub lost_held : {r : Option GuestBlock} → Held z s → Lost z s s' r → Held z s'
   lost_held h g = held-less h g.gave.becomes (λ f. lru_total f (state_in z s).ghosts)
-
-  pub emptied-held : Held z s → Emptied z s s' → Held z s'
-  emptied-held h e = held-less h e.becomes (λ f. omega arith)
 
 -- ---- and one with no resident has none
 
@@ -108,17 +106,14 @@ module _ {z : Shape} {s : List ℕ} (o : GhostsAlone z s) where
     alone-with : {g : List ℕ} → Becomes z s s' (set_ghosts g (state_in z s)) → Held z s' → GhostsAlone z s'
     alone-with b h = record { held = h; none = omega (arith, ap residents b.state, o.none) }
 
-    pub recorded-alone : {k : ℕ} {r : Given·} → k < words → Recorded z s s' k r → GhostsAlone z s'
+    pub recorded-alone : {k : ℕ} {r : Option GuestBlock} → k < words → Recorded z s s' k r → GhostsAlone z s'
     recorded-alone {k} w g = alone-with g.gave.becomes (recorded-held o.held (alone-keyed k) w g)
 
     pub took_alone : {k : ℕ} {r : Bool} → Took z s s' k r → GhostsAlone z s'
     took_alone t = alone-with t.becomes (took_held o.held t)
 
-    pub lost_alone : {r : Given·} → Lost z s s' r → GhostsAlone z s'
+    pub lost_alone : {r : Option GuestBlock} → Lost z s s' r → GhostsAlone z s'
     lost_alone g = alone-with g.gave.becomes (lost_held o.held g)
-
-    pub emptied-alone : Emptied z s s' → GhostsAlone z s'
-    emptied-alone e = alone-with e.becomes (emptied-held o.held e)
 
 -- as in a fresh store
 pub set-up-alone : {L : Limits} {s s' : List ℕ} → SetUp L s s' → GhostsAlone (shape_for L) s'

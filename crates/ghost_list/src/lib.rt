@@ -10,27 +10,20 @@ ghost use Rattle.store.specs.Looks.{Lacks};
 ghost use Rattle.ghost_list.specs.Ghosts.{Recorded, Took, Lost, RoomMade, Trimmed, Emptied, RecordedTail};
 
 use rules::GuestBlock;
-use store::{Lookup, QueueKind, Shape};
-
-// What a call gives back: the key that it dropped, or nothing.
-#[derive(Clone, Copy)]
-pub enum Given {
-    Key(GuestBlock),
-    Nothing,
-}
+use store::{Limit, Lookup, QueueKind, Shape};
 
 // Drops the oldest ghost and gives it back, or nothing if there is none.
-pub fn evict_lru(s: &mut [u8], z: Shape) -> Given
+pub fn evict_lru(s: &mut [u8], z: Shape) -> Option<GuestBlock>
     requires { Keeps z s.old }
     ensures { Lost z s.old s.new result }
 {
     if store::ghost_len(s, z) == 0 {
-        return Given::Nothing;
+        return None;
     }
     let x = store::oldest_of(s, z);
     let k = store::ghost_at(s, z, x);
     store::remove_ghost(s, z, x);
-    Given::Key(k)
+    Some(k)
 }
 
 // Takes a key off the ghosts, and says whether it was there.
@@ -38,30 +31,26 @@ pub fn remove(s: &mut [u8], z: Shape, k: GuestBlock) -> bool
     requires { Held z s.old }
     ensures { Took z s.old s.new k.0 result }
 {
-    let found = store::look(s, z, k);
-    match found {
-        Lookup::Ghost(x) => {
-            store::remove_ghost(s, z, x);
-            true
-        }
-        Lookup::Resident(_, _) => false,
-        Lookup::Absent => false,
-    }
+    let Lookup::Ghost(x) = store::look(s, z, k) else {
+        return false;
+    };
+    store::remove_ghost(s, z, x);
+    true
 }
 
 // Drops the oldest ghost where the list is full, and gives it back.
-fn make_room(s: &mut [u8], z: Shape) -> Given
+fn make_room(s: &mut [u8], z: Shape) -> Option<GuestBlock>
     requires { Keeps z s.old }
     ensures { RoomMade z s.old s.new result }
 {
-    if store::ghost_len(s, z) < store::ghost_limit_of(s, z) {
-        return Given::Nothing;
+    if store::ghost_len(s, z) < store::limit_of(s, z, Limit::Ghosts) {
+        return None;
     }
     evict_lru(s, z)
 }
 
 // Puts a key that stands nowhere in front; where the list is full the oldest is dropped and given back.
-fn record_new(s: &mut [u8], z: Shape, k: GuestBlock) -> Given
+fn record_new(s: &mut [u8], z: Shape, k: GuestBlock) -> Option<GuestBlock>
     requires { Held z s.old × Lacks z s.old k.0 × (1 ≤ (state_in z s.old).limits.ghost_limit) }
     ensures { Recorded z s.old s.new k.0 result }
 {
@@ -71,20 +60,19 @@ fn record_new(s: &mut [u8], z: Shape, k: GuestBlock) -> Given
 }
 
 // Records a key that is not resident: in front, from its place if it is there already. With limit 0 nothing happens.
-pub fn record(s: &mut [u8], z: Shape, k: GuestBlock) -> Given
+pub fn record(s: &mut [u8], z: Shape, k: GuestBlock) -> Option<GuestBlock>
     requires { Held z s.old × (keyed k.0 (state_in z s.old) ≡ 0) }
     ensures { Recorded z s.old s.new k.0 result }
 {
-    if store::ghost_limit_of(s, z) == 0 {
-        return Given::Nothing;
+    if store::limit_of(s, z, Limit::Ghosts) == 0 {
+        return None;
     }
-    let found = store::look(s, z, k);
-    match found {
+    match store::look(s, z, k) {
         Lookup::Ghost(x) => {
             store::move_to_front(s, z, x);
-            Given::Nothing
+            None
         }
-        Lookup::Resident(_, _) => Given::Nothing,
+        Lookup::Resident(..) => None,
         Lookup::Absent => record_new(s, z, k),
     }
 }
@@ -94,7 +82,7 @@ fn trim(s: &mut [u8], z: Shape)
     requires { Keeps z s.old }
     ensures { Trimmed z s.old s.new }
 {
-    if store::ghost_limit_of(s, z) < store::ghost_len(s, z) {
+    if store::limit_of(s, z, Limit::Ghosts) < store::ghost_len(s, z) {
         evict_lru(s, z);
     }
 }

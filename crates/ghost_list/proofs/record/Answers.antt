@@ -6,8 +6,8 @@ use Rattle.ghost_list.proofs.record.Goals as goal
 
 ruleset laws = (rules, looks_ghost_seated, looks_lacks, recorded-zero, recorded-there, not-resident)
 
-pub returns-then-ghost_limit_of-eq0 : goal.returns-then-ghost_limit_of-eq0
-returns-then-ghost_limit_of-eq0 c = search laws
+pub returns-then-limit_of-eq0 : goal.returns-then-limit_of-eq0
+returns-then-limit_of-eq0 c = search laws
 
 pub move_to_front-requires : goal.move_to_front-requires
 move_to_front-requires c = search laws

@@ -1,4 +1,4 @@
--- The loop `while i < n { f(s, i); i += 1; }` over bytes: its start, its turn and its end.
+-- The loop `for i in 0..n { f(s, i); }` over bytes: its start, its turn and its end.
 -- Assumes nothing.
 use mathlib.Core.Path.{◌≡◌, refl, ◌∙◌, subst}
 use mathlib.Core.List.{List}

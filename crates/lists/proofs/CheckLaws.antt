@@ -1,16 +1,13 @@
 -- Laws of the check of lists that nobody vouches for. A walk keeps one fact: what leads home from where it stands does so exactly if the whole list does.
 -- Assumes nothing.
 use mathlib.Core.Path.{◌≡◌, refl, sym, ap, ◌∙◌, subst}
-use mathlib.Core.Logic.{◌≢◌}
-use mathlib.Core.Bool.{Bool, true, false, not}
+use mathlib.Core.Bool.{Bool, true, false}
 use mathlib.Core.List.{List, [], ◌∷◌}
 use Prim.Native.Nat.{ℕ, suc, ◌+◌, ◌-◌, ◌≤◌, ◌<◌}
 use native.Mathlib.Omega.{arith}
-use borrow.Author.Tests.{not-true, not-false, ltb-true}
-use lib.Dec.{eqb, ltb}
 use lib.ListN.{length, get_or}
 use Rattle.cells.specs.Decides.{Decides, All}
-use Rattle.cells.proofs.DecidesLaws.{refuse, decides_map, decides_eq}
+use Rattle.cells.proofs.DecidesLaws.{refuse, decides_map}
 use Rattle.cells.specs.Members.{Every}
 use Rattle.nodes.specs.Nodes.{Head, Next, Prev, Queue, cols, GetsField}
 use Rattle.nodes.specs.declared.Shape.{Shape}
@@ -20,7 +17,6 @@ use Rattle.lists.specs.Pool.{view}
 use Rattle.lists.specs.Lists.{list_count, many, Lists}
 use Rattle.lists.specs.Check.{Listed, Counted, StepOk, Home, Leads, ListOk, PairOk}
 use Rattle.lists.proofs.PoolLaws.{ring-view}
-use Rattle.lists.proofs.ListsLaws.{four}
 
 -- ---- the way home, step by step
 
@@ -58,25 +54,23 @@ pub record Walking (P : Type 0) (z : Shape) (s : List ℕ) (t left u : ℕ) : Ty
   pub whole : Leads z s t left u → P
   pub part : P → Leads z s t left u
 
-pub walk_start : {z : Shape} {s : List ℕ} {t n u : ℕ} → u < z.room + 4 → Walking (Leads z s t n u) z s t n u
-walk_start b = record { near = b; whole = λ g. g; part = λ g. g }
+pub walk_start : {z : Shape} {s : List ℕ} {t n m u : ℕ} → u < z.room + 4 → m ≡ n → Walking (Leads z s t n u) z s t m u
+walk_start {z} {s} {t} {n} {m} {u} b e = rw e (record { near = b; whole = λ (g : Leads z s t n u). g; part = λ (g : Leads z s t n u). g })
 
 module _ {P : Type 0} {z : Shape} {s : List ℕ} {t left u : ℕ} (w : Walking P z s t left u) where
-  module _ {y : ℕ} {r : Bool} (some : 0 < left) (e : GetsField z s Next u y) (d : Decides (StepOk z s t u y) r) where
-    one_less : suc (left - 1) ≡ left
-    one_less = omega arith
-
-    pub walk-next : not r ≡ false → Walking P z s t (left - 1) y
-    walk-next n =
-        let p : StepOk z s t u y = d.holds (not-false r n) in
+  module _ {y : ℕ} {r : Bool} (e : GetsField z s Next u y) (d : Decides (StepOk z s t u y) r) where
+    pub walk-next : {m : ℕ} → m + 1 ≡ left → r ≡ true → Walking P z s t m y
+    walk-next {m} i n =
+        let p : StepOk z s t u y = d.holds n in
+        let l : suc m ≡ left = omega arith in
         record {
           near = omega (arith, p.node);
-          whole = λ g. w.whole (rw one_less at (leads-on e.value p g));
-          part = λ h. (leads-by e.value (rw (← one_less) at (w.part h))).1;
+          whole = λ g. w.whole (rw l at (leads-on e.value p g));
+          part = λ h. (leads-by e.value (rw (← l) at (w.part h))).1;
         }
 
-    pub walk_bad : not r ≡ true → Decides P false
-    walk_bad n = refuse (λ h. d.fails (not-true r n) (leads-by e.value (rw (← one_less) at (w.part h))).0)
+    pub walk_bad : 0 < left → r ≡ false → Decides P false
+    walk_bad some n = let l : suc (left - 1) ≡ left = omega arith in refuse (λ h. d.fails n (leads-by e.value (rw (← l) at (w.part h))).0)
 
   pub walk_end : {r : Bool} → left ≤ 0 → Decides (Home z s t u) r → Decides P r
   walk_end n d = let l : left ≡ 0 = omega arith in decides_map (λ h. w.whole (rw l (leads-home h))) (λ h. home-leads (rw l at (w.part h))) d
@@ -87,12 +81,9 @@ module _ {P : Type 0} {z : Shape} {s : List ℕ} {t left u : ℕ} (w : Walking P
 
 -- ---- a list, from its sentinel
 
-module _ {z : Shape} {s : List ℕ} {t n : ℕ} (b : t < list_count) (a : GetsField z s Head (4 + t) n) where
-  list-start : Walking (ListOk z s t) z s t n (z.room + t)
-  list-start = rw a.value (record { near = omega arith; whole = λ g. record { leads = g }; part = λ h. h.leads })
-
-  pub list_led : {r : Bool} → Decides (Leads z s t n (z.room + t)) r → Decides (ListOk z s t) r
-  list_led d = walk-rest list-start d
+list-start : {z : Shape} {s : List ℕ} {t n m : ℕ} → t < list_count → GetsField z s Head (4 + t) n → m ≡ n
+    → Walking (ListOk z s t) z s t m (z.room + t)
+list-start b a e = rw (e, a.value) (record { near = omega arith; whole = λ g. record { leads = g }; part = λ h. h.leads })
 
 -- ---- two lists, side by side
 
@@ -101,96 +92,36 @@ pub record Pairing (z : Shape) (s : List ℕ) (t v a b u w : ℕ) : Type 0 where
   pub one : Walking (ListOk z s t) z s t a u
   pub two : Walking (ListOk z s v) z s v b w
 
-pub pair-start : {z : Shape} {s : List ℕ} {t v a b : ℕ} → t < list_count → v < list_count → GetsField z s Head (4 + t) a → GetsField z s Head (4 + v) b
-    → Pairing z s t v a b (z.room + t) (z.room + v)
-pair-start i j m n = record { one = list-start i m; two = list-start j n }
+module _ {z : Shape} {s : List ℕ} {t v a b : ℕ} (i : t < list_count) (j : v < list_count) where
+  pub pair-start : {m n : ℕ} → GetsField z s Head (4 + t) a → GetsField z s Head (4 + v) b → m ≡ a → n ≡ b
+      → Pairing z s t v m n (z.room + t) (z.room + v)
+  pair-start k l e f = record { one = list-start i k e; two = list-start j l f }
 
 module _ {z : Shape} {s : List ℕ} {t v a b u w : ℕ} (p : Pairing z s t v a b u w) where
-  -- a step of each; that the second list has nodes to come is the answer of a test
-  module _ {y : ℕ} {r : Bool} (j : ltb 0 b ≡ true) (l : GetsField z s Next w y) (e : Decides (StepOk z s v w y) r) where
-    pub bad_two : not r ≡ true → Decides (PairOk z s t v) false
-    bad_two n = refuse (λ h. (walk_bad p.two (ltb-true 0 b j) l e n).fails refl h.second)
+  -- a step of each
+  module _ {y : ℕ} {r : Bool} (l : GetsField z s Next w y) (e : Decides (StepOk z s v w y) r) where
+    pub bad_two : 0 < b → r ≡ false → Decides (PairOk z s t v) false
+    bad_two j n = refuse (λ h. (walk_bad p.two l e j n).fails refl h.second)
 
-    module _ {x : ℕ} {q : Bool} (i : 0 < a) (k : GetsField z s Next u x) (d : Decides (StepOk z s t u x) q) where
-      pub pair-next : not q ≡ false → not r ≡ false → Pairing z s t v (a - 1) (b - 1) x y
-      pair-next m n = record { one = walk-next p.one i k d m; two = walk-next p.two (ltb-true 0 b j) l e n }
+    module _ {x : ℕ} {q : Bool} (k : GetsField z s Next u x) (d : Decides (StepOk z s t u x) q) where
+      pub pair-next : {m n : ℕ} → m + 1 ≡ a → n + 1 ≡ b → q ≡ true → r ≡ true → Pairing z s t v m n x y
+      pair-next f g i j = record { one = walk-next p.one k d f i; two = walk-next p.two l e g j }
 
-  pub bad_one : {x : ℕ} {q : Bool} → 0 < a → GetsField z s Next u x → Decides (StepOk z s t u x) q → not q ≡ true → Decides (PairOk z s t v) false
-  bad_one i k d n = refuse (λ h. (walk_bad p.one i k d n).fails refl h.first)
+  pub bad_one : {x : ℕ} {q : Bool} → 0 < a → GetsField z s Next u x → Decides (StepOk z s t u x) q → q ≡ false → Decides (PairOk z s t v) false
+  bad_one i k d n = refuse (λ h. (walk_bad p.one k d i n).fails refl h.first)
 
   -- the rest of each
-  module _ {q : Bool} (d : Decides (Leads z s t a u) q) where
-    pub bad_rest : not q ≡ true → Decides (PairOk z s t v) false
-    bad_rest n = refuse (λ h. d.fails (not-true q n) (p.one.part h.first))
+  module _ {m : ℕ} (i : m ≡ a) {q : Bool} (d : Decides (Leads z s t m u) q) where
+    pub bad_rest : q ≡ false → Decides (PairOk z s t v) q
+    bad_rest n = rw n (refuse (λ h. d.fails n (rw (← i) at (p.one.part h.first))))
 
-    pub pair_end : {r : Bool} → not q ≡ false → Decides (Leads z s v b w) r → Decides (PairOk z s t v) r
-    pair_end n e = decides_map (λ h. record { first = p.one.whole (d.holds (not-false q n)); second = h }) (λ h. h.second) (walk-rest p.two e)
-
--- ---- the tests, one by one
-
-module _ {z : Shape} {s : List ℕ} {t u : ℕ} where
-  pub no_node : {y : ℕ} → z.room ≤ y → Decides (StepOk z s t u y) false
-  no_node b = refuse (λ p. omega (arith, p.node))
-
-  module _ {y p : ℕ} (e : GetsField z s Prev y p) where
-    pub no_back : p ≢ u → Decides (StepOk z s t u y) false
-    no_back n = refuse (λ h. n (e.value ∙ h.back))
-
-    pub step-tag : {q : ℕ} → y < z.room → p ≡ u → GetsField z s Queue y q → Decides (StepOk z s t u y) (eqb q t)
-    step-tag {q} b i a = decides_eq q t (λ k. record { node = b; back = sym e.value ∙ i; tag = sym a.value ∙ k }) (λ h. a.value ∙ h.tag)
-
-  module _ {n : ℕ} (e : GetsField z s Next u n) where
-    pub no_home : n ≢ z.room + t → Decides (Home z s t u) false
-    no_home i = refuse (λ h. i (e.value ∙ h.forth))
-
-    pub home-back : {p : ℕ} → n ≡ z.room + t → GetsField z s Prev (z.room + t) p → Decides (Home z s t u) (eqb p u)
-    home-back {p} i a = decides_eq p u (λ k. record { forth = sym e.value ∙ i; back = sym a.value ∙ k }) (λ h. a.value ∙ h.back)
-
--- ---- the lengths, one after the other
-
-module _ {z : Shape} {s : List ℕ} {a : ℕ} (ra : GetsField z s Head 4 a) where
-  pub over-free : z.room < a → Decides (Counted z s) false
-  over-free h = refuse (λ k. omega (arith, k.sum, ra.value))
-
-  module _ {b : ℕ} (rb : GetsField z s Head 5 b) where
-    pub over-small : z.room - a < b → Decides (Counted z s) false
-    over-small h = refuse (λ k. omega (arith, k.sum, ra.value, rb.value))
-
-    module _ {c : ℕ} (rc : GetsField z s Head 6 c) where
-      pub over-main : z.room - a - b < c → Decides (Counted z s) false
-      over-main h = refuse (λ k. omega (arith, k.sum, ra.value, rb.value, rc.value))
-
-      pub count-sum : {d : ℕ} → a ≤ z.room → b ≤ z.room - a → c ≤ z.room - a - b → GetsField z s Head 7 d
-          → Decides (Counted z s) (eqb d (z.room - a - b - c))
-      count-sum {d} i j l rd =
-          decides_eq d (z.room - a - b - c) (λ e. record { sum = omega (arith, ra.value, rb.value, rc.value, rd.value) })
-          (λ k. omega (arith, k.sum, ra.value, rb.value, rc.value, rd.value))
+    pub pair_end : {n : ℕ} → n ≡ b → {r : Bool} → q ≡ true → Decides (Leads z s v n w) r → Decides (PairOk z s t v) r
+    pair_end j k e =
+        decides_map (λ h. record { first = p.one.whole (rw i at (d.holds k)); second = h }) (λ h. h.second) (walk-rest p.two (rw j at e))
 
 -- ---- all together
 
 module _ {z : Shape} {s : List ℕ} where
-  pub no_count : {r : Bool} → Decides (Counted z s) r → not r ≡ true → Decides (Listed z s) false
-  no_count {r} d n =
-      refuse (λ l. d.fails (not-true r n) (record {
-        sum =
-            omega (
-              arith,
-              l.whole,
-              l.lists.counts 0 (omega arith),
-              l.lists.counts 1 (omega arith),
-              l.lists.counts 2 (omega arith),
-              l.lists.counts 3 (omega arith),
-            );
-      }))
-
-  -- two lists and a pair are all
-  pub all-ok : {q r w : Bool} → Decides (ListOk z s 0) q → not q ≡ false → Decides (ListOk z s 1) r → not r ≡ false → Decides (PairOk z s 2 3) w
-      → Decides (All (ListOk z s) list_count) w
-  all-ok {q} {r} a m b n =
-      decides_map
-      (λ p. record { all = four (ListOk z s) (a.holds (not-false q m)) (b.holds (not-false r n)) p.first p.second })
-      (λ h. record { first = h.all 2 (omega arith); second = h.all 3 (omega arith) })
-
   lists_chained : (f : ℕ → List ℕ) → Lists z (cols z s) f → All (ListOk z s) list_count
   lists_chained f l =
       record {
@@ -240,13 +171,13 @@ module _ {z : Shape} {s : List ℕ} where
       counts : (t : ℕ) → t < list_count → many (cols z s) t ≡ length (view z.room (cols z s Next) t)
       counts t b = sym (leads t b).count ∙ ap length (seen t b)
 
-  pub listed : {q r : Bool} → Decides (Counted z s) q → not q ≡ false → Decides (All (ListOk z s) list_count) r → Decides (Listed z s) r
+  pub listed : {q r : Bool} → Decides (Counted z s) q → q ≡ true → Decides (All (ListOk z s) list_count) r → Decides (Listed z s) r
   listed {q} d n = decides_map to (λ l. lists_chained l.of l.lists)
     where
       to : All (ListOk z s) list_count → Listed z s
       to h =
           let l : Lists z (cols z s) (view z.room (cols z s Next)) = ok-lists h in
-          let k : Counted z s = d.holds (not-false q n) in
+          let k : Counted z s = d.holds n in
           record {
             of = view z.room (cols z s Next);
             lists = l;

@@ -70,41 +70,46 @@ pub record EmptyingLists (z : Shape) (s₀ s : List ℕ) (t : ℕ) : Type 0 wher
   pub bare : (i : ℕ) → i < t → Bare z (cols z s) i
   pub untouched : Untouched (cols z s₀) (cols z s)
 
-pub emptying_start : (z : Shape) (s : List ℕ) → Turns (EmptyingLists z s) list_count s s 0
-emptying_start z s = turns_start (record { bare = λ i b. absurd (omega arith); untouched = same-all (cols z s) })
+emptying_start : (z : Shape) (s : List ℕ) → EmptyingLists z s s 0
+emptying_start z s = record { bare = λ i b. absurd (omega arith); untouched = same-all (cols z s) }
 
-module _ {z : Shape} {s₀ s : List ℕ} {t : ℕ} (e : Turns (EmptyingLists z s₀) list_count s₀ s t) where
-  pub emptying_next : {s₁ : List ℕ} → t < list_count → EmptyList z s s₁ t → length s₁ ≡ length s → Turns (EmptyingLists z s₀) list_count s₀ s₁ (t + 1)
-  emptying_next {s₁} b d l =
+module _ {z : Shape} {s₀ s : List ℕ} {t : ℕ} (e : EmptyingLists z s₀ s t) where
+  emptying_next : {s₁ : List ℕ} → t < list_count → EmptyList z s s₁ t → EmptyingLists z s₀ s₁ (t + 1)
+  emptying_next {s₁} b d =
       let c : Cols = cols z s in
-      turns_next e b l
-      (record {
+      record {
         bare =
             rw d.columns
-            (below_more (λ i. Bare z (emptied z c t) i) t (λ i h. emptied-other z c t i (omega arith) (e.so_far.bare i h))
+            (below_more (λ i. Bare z (emptied z c t) i) t (λ i h. emptied-other z c t i (omega arith) (e.bare i h))
             (emptied-own z c t (omega (arith, length-cols z s Next refl)) (omega (arith, length-cols z s Prev refl))
             (omega (arith, length-cols z s Head refl))));
-        untouched = same_then e.so_far.untouched (rw d.columns (emptied-same z c t b));
-      })
-
-  none : (i : ℕ) → i < list_count → all_free 0 i ≡ []
-  none = four (λ i. all_free 0 i ≡ []) refl refl refl refl
-
-  pub emptying_end : list_count ≤ t → Fresh z s₀ s 0
-  emptying_end h =
-      let d : EmptyingLists z s₀ s list_count = turns_end e h in
-      record {
-        lists = record {
-          pool = record {
-            rings = λ i b. rw (none i b) (d.bare i b).ring;
-            tags = λ i b. rw (none i b) tt;
-            in_q = omega (arith, length-cols z s Queue refl);
-          };
-          counts = λ i b. rw (none i b) (d.bare i b).count;
-          in_head = omega (arith, length-cols z s Head refl);
-        };
-        untouched = d.untouched;
+        untouched = same_then e.untouched (rw d.columns (emptied-same z c t b));
       }
+
+none : (i : ℕ) → i < list_count → all_free 0 i ≡ []
+none = four (λ i. all_free 0 i ≡ []) refl refl refl refl
+
+emptying_end : {z : Shape} {s₀ s : List ℕ} → EmptyingLists z s₀ s list_count → Fresh z s₀ s 0
+emptying_end {z} {s₀} {s} d =
+    record {
+      lists = record {
+        pool = record {
+          rings = λ i b. rw (none i b) (d.bare i b).ring;
+          tags = λ i b. rw (none i b) tt;
+          in_q = omega (arith, length-cols z s Queue refl);
+        };
+        counts = λ i b. rw (none i b) (d.bare i b).count;
+        in_head = omega (arith, length-cols z s Head refl);
+      };
+      untouched = d.untouched;
+    }
+
+-- one after the other, all four
+pub emptied_all : {z : Shape} {s s₁ s₂ s₃ s₄ : List ℕ} → EmptyList z s s₁ 0 → EmptyList z s₁ s₂ 1 → EmptyList z s₂ s₃ 2 → EmptyList z s₃ s₄ 3
+    → Fresh z s s₄ 0
+emptied_all {z} {s} a b c d =
+    emptying_end
+    (emptying_next (emptying_next (emptying_next (emptying_next (emptying_start z s) (omega arith) a) (omega arith) b) (omega arith) c) (omega arith) d)
 
 -- ---- the nodes are freed
 
@@ -147,7 +152,3 @@ module _ {z : Shape} {s₀ s : List ℕ} {x : ℕ} (e : Turns (Fresh z s₀) z.r
 
   pub freeing_end : z.room ≤ x → Fresh z s₀ s z.room
   freeing_end h = turns_end e h
-
--- one after the other
-pub fresh_then : {z : Shape} {s s₁ s₂ : List ℕ} {m n : ℕ} → Fresh z s s₁ m → Fresh z s₁ s₂ n → Fresh z s s₂ n
-fresh_then a b = record { lists = b.lists; untouched = same_then a.untouched b.untouched }

@@ -3,3 +3,4 @@ pub mod Pool
 pub mod Lists
 pub mod Check
 pub mod Fresh
+pub mod Kinds

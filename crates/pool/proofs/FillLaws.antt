@@ -1,11 +1,11 @@
 -- A free node gets what it is to hold, and goes to the head of a list: what the calls may ask for, and the pool that they leave.
 -- Assumes nothing.
-use mathlib.Core.Path.{◌≡◌, refl, ap, ◌∙◌, subst}
+use mathlib.Core.Path.{◌≡◌, refl, ◌∙◌, subst}
 use mathlib.Core.List.{List, [], ◌∷◌}
 use Prim.Native.Nat.{ℕ, ◌+◌}
 use native.Mathlib.Omega.{arith}
 use lib.ListN.{set}
-use Rattle.nodes.specs.Nodes.{Key, Value, Freq, Next, Chain, Bucket, Queue, Cols, cols, over, with_column, SetsField, GetsField}
+use Rattle.nodes.specs.Nodes.{Key, Value, Freq, Next, Chain, Bucket, Queue, Cols, cols, over, with_column, GetsField}
 use Rattle.nodes.specs.declared.Shape.{Shape}
 use Rattle.lists.specs.Ring.{First}
 use Rattle.lists.specs.Pool.{upd}
@@ -54,10 +54,6 @@ module _ {z : Shape} {c d : Cols} {x k : ℕ} (j : Joins z c d x k) (v : ℕ) wh
   entered-freqs : entered Freq ≡ set (c Freq) x 0
   unfolding over with_column
   entered-freqs = rw j.columns
-
-pub entered_by : (z : Shape) (s s₁ : List ℕ) {s₂ s₃ : List ℕ} {x k v : ℕ} → Joins z (cols z s) (cols z s₁) x k → SetsField z s₁ s₂ Value x v
-    → SetsField z s₂ s₃ Freq x 0 → Entered z s s₃ x k v
-entered_by z s s₁ {x = x} {v = v} j a b = record { indexed = cols z s₁; joins = j; columns = b.columns ∙ ap (λ (c : Cols). over c Freq x 0) a.columns }
 
 -- ---- fill
 

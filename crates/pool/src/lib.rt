@@ -5,49 +5,51 @@
 
 ghost use Rattle.cells.specs.Decides.{Decides};
 ghost use Rattle.nodes.specs.Nodes.{cols, Room};
+ghost use Rattle.lists.specs.Kinds.{number};
 ghost use Rattle.key_index.specs.Stored.{CanJoin};
 ghost use Rattle.pool.specs.Carries.{Pooled, CanMove, Moved, CanRelease, Released, CanFill, Filled, PoolSetUp};
 ghost use Rattle.pool.specs.Relist.{CanRelist, Relisted};
 ghost use Rattle.pool.specs.Entry.{Entered};
 
-use nodes::Shape;
+use lists::ListKind;
+use nodes::{Column, Shape};
 
 // Takes node x out of list t and puts it at the head of list u. The index is left to the callers.
-fn relist(s: &mut [u8], z: Shape, t: usize, u: usize, x: usize)
+fn relist(s: &mut [u8], z: Shape, t: ListKind, u: ListKind, x: usize)
     requires room { Room z s.old }
-    requires can_relist { CanRelist z s.old t u x }
-    ensures { Relisted z s.old s.new t u x }
+    requires can_relist { CanRelist z s.old (number t) (number u) x }
+    ensures { Relisted z s.old s.new (number t) (number u) x }
 {
     lists::detach(s, z, t, x);
     lists::attach(s, z, u, x);
 }
 
 // Moves node x from list t to the head of list u. It keeps its entry.
-pub fn move_to(s: &mut [u8], z: Shape, t: usize, u: usize, x: usize)
+pub fn move_to(s: &mut [u8], z: Shape, t: ListKind, u: ListKind, x: usize)
     requires room { Room z s.old }
-    requires can_move { CanMove z s.old t u x }
-    ensures { Moved z s.old s.new t u x }
+    requires can_move { CanMove z s.old (number t) (number u) x }
+    ensures { Moved z s.old s.new (number t) (number u) x }
 {
     relist(s, z, t, u, x);
 }
 
 // Moves node x to the head of its own list: the same as a move from list t to list t, by six links and nothing else.
-pub fn move_to_head(s: &mut [u8], z: Shape, t: usize, x: usize)
+pub fn move_to_head(s: &mut [u8], z: Shape, t: ListKind, x: usize)
     requires room { Room z s.old }
-    requires can_move { CanMove z s.old t t x }
-    ensures { Moved z s.old s.new t t x }
+    requires can_move { CanMove z s.old (number t) (number t) x }
+    ensures { Moved z s.old s.new (number t) (number t) x }
 {
     lists::to_front(s, z, t, x);
 }
 
 // Frees node x of list t: its key is found no more.
-pub fn release(s: &mut [u8], z: Shape, t: usize, x: usize)
+pub fn release(s: &mut [u8], z: Shape, t: ListKind, x: usize)
     requires room { Room z s.old }
-    requires can_release { CanRelease z s.old t x }
-    ensures { Released z s.old s.new t x }
+    requires can_release { CanRelease z s.old (number t) x }
+    ensures { Released z s.old s.new (number t) x }
 {
     key_index::remove(s, z, x);
-    relist(s, z, t, lists::FREE, x);
+    relist(s, z, t, ListKind::Free, x);
 }
 
 // Writes what the free node x is to hold. What it held before is of no account.
@@ -56,19 +58,19 @@ fn enter(s: &mut [u8], z: Shape, x: usize, k: u64, v: u64)
     ensures { Entered z s.old s.new x k v }
 {
     key_index::add(s, z, x, k);
-    nodes::set_value(s, z, x, v);
-    nodes::set_freq(s, z, x, 0);
+    nodes::set64(s, z, Column::Value, x, v);
+    nodes::set(s, z, Column::Freq, x, 0);
 }
 
 // Fills a free node with a key that no node in use has, at the head of list t, and answers the node.
-pub fn fill(s: &mut [u8], z: Shape, t: usize, k: u64, v: u64) -> usize
+pub fn fill(s: &mut [u8], z: Shape, t: ListKind, k: u64, v: u64) -> usize
     requires room { Room z s.old }
-    requires can_fill { CanFill z s.old t k }
-    ensures { Filled z s.old s.new t k v result }
+    requires can_fill { CanFill z s.old (number t) k }
+    ensures { Filled z s.old s.new (number t) k v result }
 {
-    let x = lists::head_node_of(s, z, lists::FREE);
+    let x = lists::head_node_of(s, z, ListKind::Free);
     enter(s, z, x, k, v);
-    relist(s, z, lists::FREE, t, x);
+    relist(s, z, ListKind::Free, t, x);
     x
 }
 
@@ -86,8 +88,5 @@ pub fn check_pool(s: &[u8], z: Shape) -> bool
     requires { Room z s.now }
     ensures { Decides (Pooled z s.now) result }
 {
-    if !lists::check_lists(s, z) {
-        return false;
-    }
-    census::check_index(s, z)
+    lists::check_lists(s, z) && census::check_index(s, z)
 }

@@ -1,12 +1,9 @@
--- `lists::empty_all` meets its contract: the lists below t are empty.
+-- `lists::empty_all` meets its contract: the four lists, one after the other.
 use borrow.Author.Rules.{rules}
-use Rattle.lists.proofs.FreshLaws.{emptying_start, emptying_next, emptying_end}
+use Rattle.lists.proofs.FreshLaws.{emptied_all}
 use Rattle.lists.proofs.empty_all.Goals as goal
 
-ruleset laws = (rules, emptying_start, emptying_next, emptying_end)
-
-pub loop-t-preserved : goal.loop-t-preserved
-loop-t-preserved c = search laws
+ruleset laws = (rules, emptied_all)
 
 pub returns : goal.returns
 returns c = search laws

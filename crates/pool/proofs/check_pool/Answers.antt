@@ -5,5 +5,8 @@ use Rattle.pool.proofs.check_pool.Goals as goal
 
 ruleset laws = (rules, pool_no_lists, pool-index)
 
-pub returns : goal.returns
-returns c = search laws
+pub returns-then-check_lists : goal.returns-then-check_lists
+returns-then-check_lists c = search laws
+
+pub returns-else-check_lists : goal.returns-else-check_lists
+returns-else-check_lists c = search laws

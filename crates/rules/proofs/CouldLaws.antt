@@ -6,7 +6,7 @@ use borrow.Author.Tests.{le-leb, leb-true, ltb-true, eqb-true, eq-eqb}
 use mathlib.Core.Path.{◌≡◌, refl, ap, ◌∙◌}
 use mathlib.Core.Bool.{Bool, true, false, cond, ◌&&◌}
 use mathlib.Core.List.{List, [], ◌∷◌}
-use mathlib.Core.Option.{Option, none, some}
+use Rattle.std.specs.Prelude.{Option, Some, None}
 use lib.Dec.{leb, ltb}
 use lib.ListN.{length, get_or}
 use Rattle.rules.specs.declared.Kind.{Kind}
@@ -50,8 +50,8 @@ cut_short s e = pick (leb (length s) 0) refl (ltb (length s - 0) 2) refl (find (
         → cond t over (cond u cut (within (length s - 0) f)) ≡ cut → length s < longest_record
     pick true g u h f k e = omega (arith, leb-true (length s) 0 g)
     pick false g true h f k e = omega (arith, ltb-true (length s - 0) 2 h)
-    pick false g false h none k e = let z : ◌≡◌ {A = ℕ} 0 1 = cc in absurd (omega arith)
-    pick false g false h (some r) k e = inner (ltb (length s - 0) r.bytes) refl e
+    pick false g false h None k e = let z : ◌≡◌ {A = ℕ} 0 1 = cc in absurd (omega arith)
+    pick false g false h (Some r) k e = inner (ltb (length s - 0) r.bytes) refl e
       where
         inner : (v : Bool) → ltb (length s - 0) r.bytes ≡ v → cond v cut (at r.kind) ≡ cut → length s < longest_record
         inner true m e =

@@ -7,7 +7,7 @@ use borrow.Author.Tests.{lt-leb, leb-true, leb-false, ltb-false, le-ltb}
 use mathlib.Core.Path.{◌≡◌, refl, sym, ap, ap₂, ◌∙◌, subst}
 use mathlib.Core.Bool.{Bool, true, false, cond}
 use mathlib.Core.List.{List, [], ◌∷◌, ◌++◌, append_assoc, append-nil}
-use mathlib.Core.Option.{Option, none, some}
+use Rattle.std.specs.Prelude.{Option, Some, None}
 use lib.Dec.{leb, ltb}
 use lib.ListN.{length, get_or, drop, length-append, length-drop, get_or-append}
 use lib.Seq.{drop-append_seam, drop-append-le, drop-drop}
@@ -46,8 +46,8 @@ Settled cut = ⊥
 Settled over = ⊥
 
 within_more : (l m : ℕ) (f : Option Row) (p : Spot) → l ≤ m → Settled p → within l f ≡ p → within m f ≡ p
-within_more l m none p h s e = e
-within_more l m (some r) p h s e = pick (ltb l r.bytes) refl e
+within_more l m None p h s e = e
+within_more l m (Some r) p h s e = pick (ltb l r.bytes) refl e
   where
     pick : (t : Bool) → ltb l r.bytes ≡ t → cond t cut (at r.kind) ≡ p → cond (ltb m r.bytes) cut (at r.kind) ≡ p
     pick true g e = absurd (subst Settled (sym e) s)
@@ -107,8 +107,8 @@ over-end s i e = pick (leb (length s) i) refl (ltb (length s - i) 2) (find (get_
     pick : (t : Bool) → leb (length s) i ≡ t → (u : Bool) (f : Option Row) → cond t over (cond u cut (within (length s - i) f)) ≡ over → length s ≤ i
     pick true g u f e = leb-true (length s) i g
     pick false g true f e = let z : ◌≡◌ {A = ℕ} 0 1 = cc in absurd (omega arith)
-    pick false g false none e = let z : ◌≡◌ {A = ℕ} 0 1 = cc in absurd (omega arith)
-    pick false g false (some r) e = absurd (inner (ltb (length s - i) r.bytes) r.kind e)
+    pick false g false None e = let z : ◌≡◌ {A = ℕ} 0 1 = cc in absurd (omega arith)
+    pick false g false (Some r) e = absurd (inner (ltb (length s - i) r.bytes) r.kind e)
 
 pub end-end : (s : List ℕ) (i : ℕ) → reading_at s i ≡ end → length s ≤ i
 unfolding reading_at

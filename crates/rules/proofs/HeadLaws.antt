@@ -7,7 +7,7 @@ use borrow.Author.Tests.{lt-leb, le-ltb}
 use mathlib.Core.Path.{◌≡◌, refl, sym, ap, ap₂, ◌∙◌, subst}
 use mathlib.Core.Bool.{Bool, true, false, cond}
 use mathlib.Core.List.{List, [], ◌∷◌, ◌++◌}
-use mathlib.Core.Option.{Option, none, some}
+use Rattle.std.specs.Prelude.{Option, Some, None}
 use lib.Dec.{leb, ltb}
 use lib.ListN.{length, get_or, take, drop, take-append-drop, length-append}
 use lib.Seq.{length-take-le, get_or-take, take-append-le, drop-append-add}
@@ -31,20 +31,20 @@ known-row r true k e = let z : ◌≡◌ {A = ℕ} 0 1 = cc in absurd (omega ari
 known-row r false k e = cc
 
 -- the row that was found is that of the kind
-at_row : (s : List ℕ) (k : Kind) → spot_at s 0 ≡ at k → find (get_or s 0 0) (get_or s 1 0) table ≡ some (row k)
+at_row : (s : List ℕ) (k : Kind) → spot_at s 0 ≡ at k → find (get_or s 0 0) (get_or s 1 0) table ≡ Some (row k)
 unfolding spot_at
 at_row s k e = pick (leb (length s) 0) (ltb (length s - 0) 2) (find (get_or s 0 0) (get_or s 1 0) table) refl e
   where
     pick : (t u : Bool) (f : Option Row) → find (get_or s 0 0) (get_or s 1 0) table ≡ f → cond t over (cond u cut (within (length s - 0) f)) ≡ at k
-        → f ≡ some (row k)
+        → f ≡ Some (row k)
     pick true u f g e = let z : ◌≡◌ {A = ℕ} 0 1 = cc in absurd (omega arith)
     pick false true f g e = let z : ◌≡◌ {A = ℕ} 0 1 = cc in absurd (omega arith)
-    pick false false none g e = let z : ◌≡◌ {A = ℕ} 0 1 = cc in absurd (omega arith)
-    pick false false (some r) g e =
-        ap (λ (x : Row). some x) (find_known (get_or s 0 0) (get_or s 1 0) r g ∙ ap row (known-row r (ltb (length s - 0) r.bytes) k e))
+    pick false false None g e = let z : ◌≡◌ {A = ℕ} 0 1 = cc in absurd (omega arith)
+    pick false false (Some r) g e =
+        ap (λ (x : Row). Some x) (find_known (get_or s 0 0) (get_or s 1 0) r g ∙ ap row (known-row r (ltb (length s - 0) r.bytes) k e))
 
 -- and with the row and all of its bytes that is the spot
-spot_of-row : (s : List ℕ) (k : Kind) → length s ≡ (row k).bytes → find (get_or s 0 0) (get_or s 1 0) table ≡ some (row k) → spot_at s 0 ≡ at k
+spot_of-row : (s : List ℕ) (k : Kind) → length s ≡ (row k).bytes → find (get_or s 0 0) (get_or s 1 0) table ≡ Some (row k) → spot_at s 0 ≡ at k
 unfolding spot_at
 spot_of-row s k l f =
     let b = row-bytes k in

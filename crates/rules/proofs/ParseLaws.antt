@@ -7,7 +7,7 @@ use borrow.Author.Tests.{le-leb, lt-leb, leb-true, leb-false, ltb-false}
 use mathlib.Core.Path.{◌≡◌, refl, ap}
 use mathlib.Core.Bool.{Bool, true, false, cond}
 use mathlib.Core.List.{List, [], ◌∷◌}
-use mathlib.Core.Option.{Option, none, some}
+use Rattle.std.specs.Prelude.{Option, Some, None}
 use lib.Dec.{leb, ltb}
 use lib.ListN.{length, get_or, drop, length-drop}
 use lib.Seq.{get_or-drop}
@@ -30,7 +30,7 @@ Lies s i cut = Unit {0}
 Lies s i over = length s ≤ i
 
 module _ (s : List ℕ) (i : ℕ) where
-  lies-row : (r : Row) → find (get_or s i 0) (get_or s (i + 1) 0) table ≡ some r → (t : Bool) → ltb (length s - i) r.bytes ≡ t → 2 ≤ length s - i
+  lies-row : (r : Row) → find (get_or s i 0) (get_or s (i + 1) 0) table ≡ Some r → (t : Bool) → ltb (length s - i) r.bytes ≡ t → 2 ≤ length s - i
       → Lies s i (cond t cut (at r.kind))
   lies-row r f true e h = tt
   lies-row r f false e h =
@@ -40,8 +40,8 @@ module _ (s : List ℕ) (i : ℕ) where
       → Lies s i (cond a over (cond b cut (within (length s - i) f)))
   lies true b f o c e = leb-true (length s) i o
   lies false true f o c e = tt
-  lies false false none o c e = tt
-  lies false false (some r) o c e = lies-row r e (ltb (length s - i) r.bytes) refl (ltb-false (length s - i) 2 c)
+  lies false false None o c e = tt
+  lies false false (Some r) o c e = lies-row r e (ltb (length s - i) r.bytes) refl (ltb-false (length s - i) 2 c)
 
   pub spot_lies : Lies s i (spot_at s i)
   unfolding spot_at

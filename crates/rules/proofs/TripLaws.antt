@@ -9,7 +9,7 @@ use mathlib.Core.List.{List, [], ◌∷◌, ◌++◌, append_assoc, append-nil}
 use lib.ListN.{length, drop, length-append}
 use lib.Seq.{drop-append_seam}
 use Rattle.cells.specs.Cells.{le}
-use mathlib.Core.Option.{some}
+use Rattle.std.specs.Prelude.{Some}
 use Rattle.rules.specs.declared.Row.{Row}
 use Rattle.rules.specs.Records.{Request, GT, PK, RM, IN, EV, CL, Narrow, AllNarrow}
 use Rattle.rules.specs.Bytes.{bytes_of, row, kind_of, table, find, at, spot_at, made, ask, reading, reading_at, whole, Parsed}
@@ -38,7 +38,7 @@ le-after pre w v rest h =
     ∙ ap (λ l. le w l 0) (drop-append_seam pre (bytes_of w v ++ rest))
     ∙ le_bytes w v rest h
 
-spot_of : (a b : ℕ) (t : List ℕ) (r : Row) → find a b table ≡ some r → r.bytes ≤ suc (suc (length t)) → spot_at (a ∷ b ∷ t) 0 ≡ at r.kind
+spot_of : (a b : ℕ) (t : List ℕ) (r : Row) → find a b table ≡ Some r → r.bytes ≤ suc (suc (length t)) → spot_at (a ∷ b ∷ t) 0 ≡ at r.kind
 unfolding spot_at
 spot_of a b t r f h =
     rw (

@@ -1,8 +1,7 @@
 -- Requests and replies as bytes: marks, numbers, the one table, and the records of a run of bytes (RULES 6).
 -- A number is 8 bytes, least significant first: `le 8 s at` is the one that stands at an offset, `bytes_of 8 v` is how v is written.
 -- Assumes nothing.
-use Rattle.std.specs.Prelude.{ℕ, suc, zero, ◌+◌, ◌-◌, ◌/◌, ◌%◌, Bool, cond, ◌&&◌, List, [], ◌∷◌, ◌++◌, map, eqb, leb, ltb, length, get_or}
-use Rattle.std.proofs.Math.Option.{Option, none, some}
+use Rattle.std.specs.Prelude.{ℕ, suc, zero, ◌+◌, ◌-◌, ◌/◌, ◌%◌, Bool, cond, ◌&&◌, List, [], ◌∷◌, ◌++◌, map, eqb, leb, ltb, length, get_or, Option, Some, None}
 use Rattle.cells.specs.Cells.{le}
 use Rattle.rules.specs.Parts.{total}
 use Rattle.rules.specs.declared.Kind.{Kind}
@@ -87,12 +86,12 @@ marks a b m = eqb a (get_or m 0 0) && eqb b (get_or m 1 0)
 
 -- the first row with the mark
 unfoldable pub find : ℕ → ℕ → List Row → Option Row
-find a b [] = none
-find a b (r ∷ rs) = cond (marks a b r.mark) (some r) (find a b rs)
+find a b [] = None
+find a b (r ∷ rs) = cond (marks a b r.mark) (Some r) (find a b rs)
 
 abbrev pub within : ℕ → Option Row → Spot
-within left none = unknown
-within left (some r) = cond (ltb left r.bytes) cut (at r.kind)
+within left None = unknown
+within left (Some r) = cond (ltb left r.bytes) cut (at r.kind)
 
 unfoldable pub spot_at : List ℕ → ℕ → Spot
 unfolding find table

@@ -15,7 +15,7 @@ use Rattle.rules.specs.Bytes.{Parsed, ends, with, on_reading, parse_from}
 use Rattle.rules.specs.Refusals.{most_request_bytes}
 use Rattle.rules.proofs.TableLaws.{row-bytes, room-made}
 use Rattle.rules.proofs.ParseLaws.{Lies, spot_lies, parse-step}
-use Rattle.wire.specs.declared.KnownRow.{KnownRow}
+use Rattle.rules.specs.declared.Row.{Row}
 use Rattle.wire.specs.declared.Spot.{Spot as Spot·}
 use Rattle.wire.specs.declared.Spot.TheVariants.{At, Unknown, Cut, End as Over}
 use Rattle.wire.specs.declared.Stop.TheVariants.{Whole, Unknown as UnknownStop, Cut as CutStop}
@@ -64,7 +64,7 @@ module _ {s : List ℕ} {start i n : ℕ} (g : Surveying s start i n) {p : Spot�
       let e : length s ≡ i = omega (arith, g.within, o) in
       sym (turn end (reads f is refl) ∙ stopped (length s) n whole ∙ (λ j. record { room = n; at = e j; stop = Whole }))
 
-  module _ {e : KnownRow} (is : p ≡ At e) where
+  module _ {e : Row} (is : p ≡ At e) where
     bounds : (2 ≤ e.bytes) × (e.room ≤ 18 * e.bytes)
     bounds = rw (row_is f is) (row-bytes e.kind)
 

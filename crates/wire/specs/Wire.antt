@@ -1,16 +1,12 @@
 -- The code's values in the terms of the rules: requests, replies, what stands at an offset, the survey; and what a writer promises.
 -- Assumes nothing.
-use Rattle.std.specs.Prelude.{ℕ, ◌+◌, ◌≡◌, Bool, List, ◌++◌, length, get_or, take, drop}
-use Rattle.std.proofs.Math.Option.{Option, none, some}
+use Rattle.std.specs.Prelude.{ℕ, ◌+◌, ◌≡◌, Bool, List, ◌++◌, length, get_or, take, drop, Option}
 use Rattle.rules.specs.declared.Kind.{Kind}
 use Rattle.rules.specs.declared.Row.{Row}
 use Rattle.rules.specs.Records.{Request, GT, PK, RM, IN, EV, CL, Reply, MI, OK, HI, RE, NW, GO, EX, ES, EM}
 use Rattle.rules.specs.Bytes.{row, table, Spot, at, unknown, cut, over, marks, find, spot_at, made, Reading, ask, strange, short, end, End, whole, unknown_at}
 use Rattle.rules.specs.Bytes.{cut_at}
 use Rattle.rules.specs.Bytes.{Parsed, room_for}
-use Rattle.wire.specs.declared.KnownRow.{KnownRow}
-use Rattle.wire.specs.declared.RowFound.{RowFound}
-use Rattle.wire.specs.declared.RowFound.TheVariants.{Row as Row·, Nothing}
 use Rattle.wire.specs.declared.Spot.{Spot as Spot·}
 use Rattle.wire.specs.declared.Spot.TheVariants.{At, Unknown, Cut, End as Over}
 use Rattle.wire.specs.declared.Request.{Request as Request·}
@@ -44,17 +40,9 @@ told (Handed k v) = EX k.0 v.0
 told (FromSmall k v) = ES k.0 v.0
 told (FromMain k v) = EM k.0 v.0
 
--- what a row says besides its mark
-abbrev pub known_row : Row → KnownRow
-known_row r = record { kind = r.kind; bytes = r.bytes; room = r.room }
-
-abbrev pub row_found : Option Row → RowFound
-row_found none = Nothing
-row_found (some r) = Row· (known_row r)
-
 -- the code's form of what stands at an offset
 abbrev pub spotted : Spot → Spot·
-spotted (at k) = At (known_row (row k))
+spotted (at k) = At (row k)
 spotted unknown = Unknown
 spotted cut = Cut
 spotted over = Over
@@ -72,8 +60,8 @@ pub record Marked (s : List ℕ) (i : ℕ) (m : List ℕ) (r : Bool) : Type 0 wh
   pub is : r ≡ marks (get_or s i 0) (get_or s (i + 1) 0) m
 
 -- the row of the mark there
-pub record Meets (s : List ℕ) (i : ℕ) (r : RowFound) : Type 0 where
-  pub is : r ≡ row_found (find (get_or s i 0) (get_or s (i + 1) 0) table)
+pub record Meets (s : List ℕ) (i : ℕ) (r : Option Row) : Type 0 where
+  pub is : r ≡ find (get_or s i 0) (get_or s (i + 1) 0) table
 
 -- what stands there
 pub record Spots (s : List ℕ) (i : ℕ) (r : Spot·) : Type 0 where

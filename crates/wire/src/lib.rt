@@ -7,7 +7,7 @@ ghost use Rattle.rules.specs.Bytes.{bytes_of, encode, row, reading_at, parse_fro
 ghost use Rattle.rules.specs.Refusals.{most_request_bytes};
 ghost use Rattle.wire.specs.Wire.{told, meaning, Marked, Meets, Spots, Asks, surveyed, Wrote};
 
-use rules::{GuestBlock, Kind, PhysicalBlock};
+use rules::{GuestBlock, Kind, PhysicalBlock, Row};
 
 #[derive(Clone, Copy)]
 pub enum Request {
@@ -32,24 +32,10 @@ pub enum Reply {
     FromMain(GuestBlock, PhysicalBlock),
 }
 
-// What a row of the table says of a record whose mark was met.
-#[derive(Clone, Copy)]
-struct KnownRow {
-    pub kind: Kind,
-    pub bytes: usize,
-    pub room: usize,
-}
-
-#[derive(Clone, Copy)]
-enum RowFound {
-    Row(KnownRow),
-    Nothing,
-}
-
 // What stands at an offset, by its mark and its length.
 #[derive(Clone, Copy)]
 enum Spot {
-    At(KnownRow),
+    At(Row),
     // A mark that no row has.
     Unknown,
     // A record whose bytes are not all there.
@@ -90,25 +76,17 @@ fn marked(s: &[u8], at: usize, mark: &[u8; 2]) -> bool
     s[at] == mark[0] && s[at + 1] == mark[1]
 }
 
-// The row of the mark at an offset. It leaves the loop with what is needed of the row, so that the table is not read again.
-fn find_row(s: &[u8], at: usize) -> RowFound
+// The row of the mark at an offset. It leaves the loop with a copy, so that the table is not read again.
+fn find_row(s: &[u8], at: usize) -> Option<Row>
     requires { at + 2 ≤ length s.now }
     ensures { Meets s.now at result }
 {
-    let mut i = 0;
-    while i < rules::ROWS {
-        let row = rules::row_of(i);
+    for row in rules::rows() {
         if marked(s, at, &row.mark) {
-            let kind = row.kind;
-            return RowFound::Row(KnownRow {
-                kind,
-                bytes: row.bytes,
-                room: row.room,
-            });
+            return Some(*row);
         }
-        i += 1;
     }
-    RowFound::Nothing
+    None
 }
 
 // What stands at an offset.
@@ -123,13 +101,12 @@ fn spot_at(s: &[u8], at: usize) -> Spot
     }
     let found = find_row(s, at);
     match found {
-        RowFound::Nothing => Spot::Unknown,
-        RowFound::Row(known) => {
-            let bytes = known.bytes;
-            if s.len() - at < bytes {
+        None => Spot::Unknown,
+        Some(row) => {
+            if s.len() - at < row.bytes {
                 return Spot::Cut;
             }
-            Spot::At(known)
+            Spot::At(row)
         }
     }
 }
@@ -158,10 +135,9 @@ pub fn next(s: &[u8], at: usize) -> Record
 {
     let spot = spot_at(s, at);
     match spot {
-        Spot::At(known) => {
-            let kind = known.kind;
-            let request = request_at(s, at, kind);
-            Record::Ask(request, at + known.bytes)
+        Spot::At(row) => {
+            let request = request_at(s, at, row.kind);
+            Record::Ask(request, at + row.bytes)
         }
         Spot::Unknown => Record::Unknown,
         Spot::Cut => Record::Cut,
@@ -178,33 +154,17 @@ pub fn survey_from(s: &[u8], start: usize) -> Survey
     let mut room = 0;
     loop {
         let spot = spot_at(s, at);
-        match spot {
-            Spot::At(known) => {
-                at += known.bytes;
-                room += known.room;
+        let stop = match spot {
+            Spot::At(row) => {
+                at += row.bytes;
+                room += row.room;
+                continue;
             }
-            Spot::Unknown => {
-                return Survey {
-                    room,
-                    at,
-                    stop: Stop::Unknown,
-                }
-            }
-            Spot::Cut => {
-                return Survey {
-                    room,
-                    at,
-                    stop: Stop::Cut,
-                }
-            }
-            Spot::End => {
-                return Survey {
-                    room,
-                    at,
-                    stop: Stop::Whole,
-                }
-            }
-        }
+            Spot::Unknown => Stop::Unknown,
+            Spot::Cut => Stop::Cut,
+            Spot::End => Stop::Whole,
+        };
+        return Survey { room, at, stop };
     }
 }
 

@@ -1,12 +1,6 @@
--- `wire::find_row` meets its contract. The number of rows that the loop goes by is the length of the table, once that is unfolded.
-use Prim.Native.Nat.{◌-◌}
-use lib.ListN.{length}
-use Rattle.rules.specs.Bytes.{table}
+-- `wire::find_row` meets its contract: the rows passed so far have another mark.
 use Rattle.wire.proofs.SpotLaws.{Seeking}
 use Rattle.wire.proofs.find_row.Given as goal
 
-abbrev pub invariant-loop-i : goal.invariant-loop-i
-invariant-loop-i l = Seeking l.s l.at l.i
-
-abbrev pub decreases-loop-i : goal.decreases-loop-i
-decreases-loop-i l = length table - l.i
+abbrev pub invariant-loop-row : goal.invariant-loop-row
+invariant-loop-row l = Seeking l.s l.at l.row-index

@@ -14,8 +14,8 @@ returns-then-s-at-lt2 c = search laws
 pub returns-then-s-at-2 : goal.returns-then-s-at-2
 returns-then-s-at-2 c = search laws
 
-pub returns-in-Nothing : goal.returns-in-Nothing
-returns-in-Nothing c = search laws
+pub returns-in-None : goal.returns-in-None
+returns-in-None c = search laws
 
 pub returns-else-s-at-2 : goal.returns-else-s-at-2
 returns-else-s-at-2 c = search laws

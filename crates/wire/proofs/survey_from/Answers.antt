@@ -6,11 +6,11 @@ use Rattle.wire.proofs.survey_from.Goals as goal
 
 ruleset laws = (rules, spot_fits, survey_start, room_fits, survey_less, survey_next, survey_unknown, survey_cut, survey_whole)
 
-pub loop-known-smaller : goal.loop-known-smaller
-loop-known-smaller c = search laws
+pub loop-row-smaller : goal.loop-row-smaller
+loop-row-smaller c = search laws
 
-pub loop-known-preserved : goal.loop-known-preserved
-loop-known-preserved c = search laws
+pub loop-row-preserved : goal.loop-row-preserved
+loop-row-preserved c = search laws
 
 pub returns-in-Unknown : goal.returns-in-Unknown
 returns-in-Unknown c = search laws

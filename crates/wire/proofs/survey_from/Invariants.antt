@@ -4,8 +4,8 @@ use lib.ListN.{length}
 use Rattle.wire.proofs.SurveyLaws.{Surveying}
 use Rattle.wire.proofs.survey_from.Given as goal
 
-abbrev pub invariant-loop-known : goal.invariant-loop-known
-invariant-loop-known l = Surveying l.s l.start l.at l.room
+abbrev pub invariant-loop-row : goal.invariant-loop-row
+invariant-loop-row l = Surveying l.s l.start l.at l.room
 
-abbrev pub decreases-loop-known : goal.decreases-loop-known
-decreases-loop-known l = length l.s - l.at
+abbrev pub decreases-loop-row : goal.decreases-loop-row
+decreases-loop-row l = length l.s - l.at

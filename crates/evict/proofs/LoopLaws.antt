@@ -9,21 +9,17 @@ use lib.ListN.{length}
 use borrow.Author.Tests.{le-leb, lt-leb}
 use mir.Syntax.{w64}
 use mir.Val.{Fits}
+use Rattle.std.specs.Prelude.{Option, Some, None}
 use Rattle.nodes.specs.declared.Shape.{Shape}
-use Rattle.rules.specs.declared.GuestBlock.{GuestBlock}
-use Rattle.rules.specs.declared.PhysicalBlock.{PhysicalBlock}
-use Rattle.rules.specs.State.{max_freq, most, fresh, residents, one, warmth}
+use Rattle.rules.specs.State.{Entry, Queue, max_freq, most, fresh, residents, one, warmth}
 use Rattle.rules.specs.Eviction.{moved, left, step, evict, evict_if_full, tell}
 use Rattle.rules.proofs.PartsLaws.{length-total}
 use Rattle.rules.proofs.EngineLaws.{after, after-moved, evict-left}
 use Rattle.rules.proofs.EvictionLaws.{Moves, step_law, moves-total, moves_colder}
 use Rattle.rules.proofs.SoundLaws.{warmth-most}
-use Rattle.store.specs.declared.QueueKind.{QueueKind}
 use Rattle.store.specs.Holds.{state_in, rest_in, Held}
 use Rattle.store.specs.Seats.{queue_kind}
-use Rattle.evict.specs.declared.Turn.{Turn as Turn·}
-use Rattle.evict.specs.declared.Turn.TheVariants.{Moved, Left}
-use Rattle.evict.specs.declared.Pushed.TheVariants.{Nothing}
+use Rattle.evict.specs.declared.Pushed.{Pushed}
 use Rattle.evict.specs.declared.Evicted.{Evicted as Evicted·}
 use Rattle.evict.specs.Evicts.{pushed_of, Steps, Makes}
 
@@ -55,12 +51,12 @@ module _ {z : Shape} {s₀ s : List ℕ} {n : ℕ} (g : Going z s₀ s n) where
   pub going_few : n < 65536
   going_few = omega (arith, g.few)
 
-  module _ {s₁ : List ℕ} {r : Turn·} (t : Steps z s s₁ r) where
-    module _ {q : QueueKind} (e : r ≡ Moved q) where
-      turn_is : step (state_in z s) ≡ moved (queue_kind q) (state_in z s₁)
+  module _ {s₁ : List ℕ} {r : Option Pushed} (t : Steps z s s₁ r) where
+    module _ (e : r ≡ None) where
+      turn_is : step (state_in z s) ≡ moved t.popped (state_in z s₁)
       turn_is = t.turn ∙ rw e
 
-      moves : Moves (state_in z s) (queue_kind q) (state_in z s₁)
+      moves : Moves (state_in z s) t.popped (state_in z s₁)
       moves = rw turn_is at (step_law (state_in z s))
 
       cooler : warmth (state_in z s₁) < warmth (state_in z s)
@@ -71,7 +67,7 @@ module _ {z : Shape} {s₀ s : List ℕ} {n : ℕ} (g : Going z s₀ s n) where
           record {
             held = t.held;
             some = omega (arith, g.some, moves-total one (λ p y. refl) moves);
-            on = g.on ∙ after-moved n (state_in z s) (state_in z s₁) (queue_kind q) g.held.sound.fine g.some turn_is;
+            on = g.on ∙ after-moved n (state_in z s) (state_in z s₁) t.popped g.held.sound.fine g.some turn_is;
             few = omega (arith, g.few, cooler);
             rest = t.rest ∙ g.rest;
             same = l ∙ g.same;
@@ -81,19 +77,19 @@ module _ {z : Shape} {s₀ s : List ℕ} {n : ℕ} (g : Going z s₀ s n) where
       unfolding heat
       going_less = cooler
 
-    pub going_end : {q : QueueKind} {k : GuestBlock} {v : PhysicalBlock} → r ≡ Left q k v → (w : Evicted·)
-        → pushed_of w.pushed ≡ tell (queue_kind q) (fresh k.0 v.0) ∷ [] → w.pops ≡ n + 1
-        → Makes z s₀ s₁ (evict (state_in z s₀)) w
-    going_end {q} {k} {v} e w p c =
-        let turn : step (state_in z s) ≡ left (queue_kind q) (fresh k.0 v.0) (state_in z s₁) = t.turn ∙ rw e in
-        let all : evict (state_in z s₀) ≡ record { state = state_in z s₁; told = tell (queue_kind q) (fresh k.0 v.0) ∷ []; pops = n + 1 } =
-        g.on ∙ ap (after n) (evict-left (state_in z s) (state_in z s₁) (queue_kind q) (fresh k.0 v.0) g.held.sound.fine g.some turn) in
-        rw all (record { becomes = record { keeps = t.held.keeps; state = refl; rest = t.rest ∙ g.rest }; told = p; pops = c })
+    pub going_end : {p : Pushed} → r ≡ Some p → (w : Evicted·) → w.pushed ≡ Some p → w.pops ≡ n + 1 → Makes z s₀ s₁ (evict (state_in z s₀)) w
+    going_end {p} e w m c =
+        let q : Queue = queue_kind p.from in
+        let y : Entry = fresh p.key.0 p.value.0 in
+        let turn : step (state_in z s) ≡ left q y (state_in z s₁) = t.turn ∙ rw e in
+        let all : evict (state_in z s₀) ≡ record { state = state_in z s₁; told = tell q y ∷ []; pops = n + 1 } =
+        g.on ∙ ap (after n) (evict-left (state_in z s) (state_in z s₁) q y g.held.sound.fine g.some turn) in
+        rw all (record { becomes = record { keeps = t.held.keeps; state = refl; rest = t.rest ∙ g.rest }; told = ap pushed_of m; pops = c })
 
 -- ---- eviction where the cache is full
 
 module _ {z : Shape} {s : List ℕ} (h : Held z s) {n m : ℕ} (e : n ≡ residents (state_in z s)) (f : m ≡ (state_in z s).limits.capacity) where
-  pub makes_nothing : n < m → (w : Evicted·) → w.pushed ≡ Nothing → w.pops ≡ 0 → Makes z s s (evict_if_full (state_in z s)) w
+  pub makes_nothing : n < m → (w : Evicted·) → w.pushed ≡ None → w.pops ≡ 0 → Makes z s s (evict_if_full (state_in z s)) w
   unfolding evict_if_full
   makes_nothing l w p c =
       rw (lt-leb (state_in z s).limits.capacity (residents (state_in z s)) (omega arith))

@@ -1,20 +1,14 @@
 -- What eviction on the store is, in the terms of the rules.
 -- Assumes nothing.
-use Rattle.std.specs.Prelude.{◌≡◌, true, List, [], ◌∷◌, ◌++◌, ℕ, pred}
+use Rattle.std.specs.Prelude.{◌≡◌, true, List, [], ◌∷◌, ◌++◌, ℕ, pred, Option, Some, None}
 use Rattle.nodes.specs.declared.Shape.{Shape}
-use Rattle.rules.specs.declared.GuestBlock.{GuestBlock}
-use Rattle.rules.specs.declared.PhysicalBlock.{PhysicalBlock}
 use Rattle.rules.specs.State.{Entry, State, Queue, Small, Main, fresh, queue_of, set_queue}
-use Rattle.rules.specs.Records.{Reply, ES, EM}
-use Rattle.rules.specs.Eviction.{Turn, moved, left, victim, wanted, back, ghosted, step, Evicted}
+use Rattle.rules.specs.Records.{Reply}
+use Rattle.rules.specs.Eviction.{Turn, moved, left, victim, wanted, back, ghosted, step, tell, Evicted}
 use Rattle.store.specs.Holds.{state_in, rest_in, Held, Becomes}
 use Rattle.store.specs.Seats.{queue_kind, Seat}
-use Rattle.evict.specs.declared.Popped.{Popped}
-use Rattle.evict.specs.declared.Popped.TheVariants.{Back, Cold}
-use Rattle.evict.specs.declared.Turn.{Turn as Turn·}
-use Rattle.evict.specs.declared.Turn.TheVariants.{Moved, Left}
+use Rattle.evict.specs.declared.Cold.{Cold}
 use Rattle.evict.specs.declared.Pushed.{Pushed}
-use Rattle.evict.specs.declared.Pushed.TheVariants.{Nothing, FromSmall, FromMain}
 use Rattle.evict.specs.declared.Evicted.{Evicted as Evicted·}
 
 -- the frequency of an entry that goes back
@@ -22,16 +16,15 @@ abbrev pub cool_to : Queue → ℕ → ℕ
 cool_to Small n = 0
 cool_to Main n = pred n
 
--- the turn that the code's is, into a state
-abbrev pub turn_of : Turn· → State → Turn
-turn_of (Moved q) τ = moved (queue_kind q) τ
-turn_of (Left q k v) τ = left (queue_kind q) (fresh k.0 v.0) τ
+-- the turn that the code's is, a step on the queue q into a state: a pair left, or the tail went to Main's head
+abbrev pub turn_of : Queue → Option Pushed → State → Turn
+turn_of q None τ = moved q τ
+turn_of q (Some p) τ = left (queue_kind p.from) (fresh p.key.0 p.value.0) τ
 
 -- what is told of a pair that was pushed out
-abbrev pub pushed_of : Pushed → List Reply
-pushed_of Nothing = []
-pushed_of (FromSmall k v) = ES k.0 v.0 ∷ []
-pushed_of (FromMain k v) = EM k.0 v.0 ∷ []
+abbrev pub pushed_of : Option Pushed → List Reply
+pushed_of None = []
+pushed_of (Some p) = tell (queue_kind p.from) (fresh p.key.0 p.value.0) ∷ []
 
 -- the queue whose tail is popped
 pub record Picks (z : Shape) (s : List ℕ) (q : Queue) : Type 0 where
@@ -51,19 +44,20 @@ pub record StaysTail (z : Shape) (s s' : List ℕ) (q : Queue) (b : List Entry) 
   pub seat : Seat z s q x b e []
 
 -- the tail of the queue q was popped, with the answer r
-pub record PopsTail (z : Shape) (s s' : List ℕ) (q : Queue) (r : Popped) : Type 0 where
+pub record PopsTail (z : Shape) (s s' : List ℕ) (q : Queue) (r : Option Cold) : Type 0 where
   pub before : List Entry
   pub entry : Entry
   pub tail_is : queue_of q (state_in z s) ≡ before ++ (entry ∷ [])
-  pub went : r ≡ Back → GoesBack z s s' q before entry
-  pub stays : (x : ℕ) (k : GuestBlock) (v : PhysicalBlock) → r ≡ Cold x k v → StaysTail z s s' q before entry x k.0 v.0
+  pub went : r ≡ None → GoesBack z s s' q before entry
+  pub stays : (c : Cold) → r ≡ Some c → StaysTail z s s' q before entry c.node c.key.0 c.value.0
 
 -- ---- eviction
 
 -- one step
-pub record Steps (z : Shape) (s s' : List ℕ) (r : Turn·) : Type 0 where
+pub record Steps (z : Shape) (s s' : List ℕ) (r : Option Pushed) : Type 0 where
   pub held : Held z s'
-  pub turn : step (state_in z s) ≡ turn_of r (state_in z s')
+  pub popped : Queue
+  pub turn : step (state_in z s) ≡ turn_of popped r (state_in z s')
   pub rest : rest_in z s' ≡ rest_in z s
 
 -- an eviction, or what stands in its place

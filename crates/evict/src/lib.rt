@@ -2,42 +2,36 @@
 // walking.
 #![tactic(auto)]
 
-ghost use Rattle.std.specs.Prelude.{◌≡◌, ◌≤◌, ◌<◌, length, [], ◌∷◌};
-ghost use Rattle.rules.specs.State.{fresh, queue_of, residents};
-ghost use Rattle.rules.specs.Eviction.{evict, evict_if_full, tell};
+ghost use Rattle.std.specs.Prelude.{◌≡◌, ◌≤◌, ◌<◌, length};
+ghost use Rattle.rules.specs.State.{queue_of, residents};
+ghost use Rattle.rules.specs.Eviction.{evict, evict_if_full};
 ghost use Rattle.store.specs.Holds.{state_in, Held};
 ghost use Rattle.store.specs.Seats.{queue_kind, Tail};
-ghost use Rattle.evict.specs.Evicts.{cool_to, pushed_of, Picks, PopsTail, Steps, Makes, Leaves};
+ghost use Rattle.evict.specs.Evicts.{cool_to, Picks, PopsTail, Steps, Makes, Leaves};
 
 use rules::{GuestBlock, PhysicalBlock};
-use store::{QueueKind, Shape};
+use store::{Limit, QueueKind, Shape};
 
-// What a pop finds: the entry went to Main's head, or its frequency is 0, and it is still the tail, at a node, with its pair.
+// A tail whose frequency is 0, still at its node, with its pair.
 #[derive(Clone, Copy)]
-pub enum Popped {
-    Back,
-    Cold(usize, GuestBlock, PhysicalBlock),
+pub struct Cold {
+    pub node: usize,
+    pub key: GuestBlock,
+    pub value: PhysicalBlock,
 }
 
-// What a step does: the popped entry went to Main's head, or it left.
+// A pair that was pushed out, and from which queue.
 #[derive(Clone, Copy)]
-enum Turn {
-    Moved(QueueKind),
-    Left(QueueKind, GuestBlock, PhysicalBlock),
+pub struct Pushed {
+    pub from: QueueKind,
+    pub key: GuestBlock,
+    pub value: PhysicalBlock,
 }
 
-// The pair that was pushed out, and from which queue; or none.
-#[derive(Clone, Copy)]
-pub enum Pushed {
-    Nothing,
-    FromSmall(GuestBlock, PhysicalBlock),
-    FromMain(GuestBlock, PhysicalBlock),
-}
-
-// What an eviction comes to: the pair that left, and how many pops it took.
+// What an eviction comes to: the pair that left, if one did, and how many pops it took.
 #[derive(Clone, Copy)]
 pub struct Evicted {
-    pub pushed: Pushed,
+    pub pushed: Option<Pushed>,
     pub pops: u64,
 }
 
@@ -46,13 +40,12 @@ fn victim(s: &[u8], z: Shape) -> QueueKind
     requires { Held z s.now }
     ensures { Picks z s.now (queue_kind result) }
 {
-    if store::small_limit_of(s, z) < store::len_of(s, z, QueueKind::Small) {
-        return QueueKind::Small;
+    let small = store::len_of(s, z, QueueKind::Small);
+    if store::limit_of(s, z, Limit::Small) < small || store::len_of(s, z, QueueKind::Main) == 0 {
+        QueueKind::Small
+    } else {
+        QueueKind::Main
     }
-    if store::len_of(s, z, QueueKind::Main) == 0 {
-        return QueueKind::Small;
-    }
-    QueueKind::Main
 }
 
 // The frequency, above 0, of an entry that goes back becomes 0 from Small, and one less from Main.
@@ -69,19 +62,21 @@ fn cooled(q: QueueKind, freq: usize) -> usize
 
 // Pops the tail of a queue that is not empty. An entry with a frequency above 0 goes to Main's head, cooled; any other stays where it is, for the
 // caller to take out, with a ghost or without one.
-pub fn pop_tail(s: &mut [u8], z: Shape, q: QueueKind) -> Popped
+pub fn pop_tail(s: &mut [u8], z: Shape, q: QueueKind) -> Option<Cold>
     requires { Held z s.old × (1 ≤ length (queue_of (queue_kind q) (state_in z s.old))) }
     ensures { PopsTail z s.old s.new (queue_kind q) result }
 {
-    let x = store::tail_of(s, z, q);
-    let entry = store::entry_at(s, z, x);
+    let node = store::tail_of(s, z, q);
+    let entry = store::entry_at(s, z, node);
     if 0 < entry.freq {
-        store::reattach_main_head(s, z, q, x, cooled(q, entry.freq));
-        return Popped::Back;
+        store::reattach_main_head(s, z, q, node, cooled(q, entry.freq));
+        return None;
     }
-    let key = entry.key;
-    let value = entry.value;
-    Popped::Cold(x, key, value)
+    Some(Cold {
+        node,
+        key: entry.key,
+        value: entry.value,
+    })
 }
 
 // The last entry of a queue leaves; what leaves Small becomes a ghost.
@@ -95,37 +90,27 @@ fn leave(s: &mut [u8], z: Shape, q: QueueKind, x: usize)
     }
 }
 
-// The tail of the queue that was picked goes to Main's head or leaves.
-fn try_evict_from_queue(s: &mut [u8], z: Shape, q: QueueKind) -> Turn
+// The tail of the queue that was picked goes to Main's head, or it leaves and is told.
+fn try_evict_from_queue(s: &mut [u8], z: Shape, q: QueueKind) -> Option<Pushed>
     requires { Held z s.old × Picks z s.old (queue_kind q) × (1 ≤ length (queue_of (queue_kind q) (state_in z s.old))) }
     ensures { Steps z s.old s.new result }
 {
-    let popped = pop_tail(s, z, q);
-    match popped {
-        Popped::Back => Turn::Moved(q),
-        Popped::Cold(x, k, v) => {
-            leave(s, z, q, x);
-            Turn::Left(q, k, v)
-        }
-    }
+    let cold = pop_tail(s, z, q)?;
+    leave(s, z, q, cold.node);
+    Some(Pushed {
+        from: q,
+        key: cold.key,
+        value: cold.value,
+    })
 }
 
 // One step of the rule, on a cache that is not empty.
-fn step(s: &mut [u8], z: Shape) -> Turn
+fn step(s: &mut [u8], z: Shape) -> Option<Pushed>
     requires { Held z s.old × (1 ≤ residents (state_in z s.old)) }
     ensures { Steps z s.old s.new result }
 {
     let q = victim(s, z);
     try_evict_from_queue(s, z, q)
-}
-
-fn pushed_from(q: QueueKind, k: GuestBlock, v: PhysicalBlock) -> Pushed
-    ensures { pushed_of result ≡ tell (queue_kind q) (fresh k.0 v.0) ∷ [] }
-{
-    match q {
-        QueueKind::Small => Pushed::FromSmall(k, v),
-        QueueKind::Main => Pushed::FromMain(k, v),
-    }
 }
 
 // Steps until a pair has left. Each step that moves an entry lowers the sum of frequencies, so the loop ends.
@@ -135,16 +120,13 @@ fn evict(s: &mut [u8], z: Shape) -> Evicted
 {
     let mut pops = 0;
     loop {
-        let turn = step(s, z);
+        let left = step(s, z);
         pops += 1;
-        match turn {
-            Turn::Moved(_) => {}
-            Turn::Left(q, k, v) => {
-                return Evicted {
-                    pushed: pushed_from(q, k, v),
-                    pops,
-                }
-            }
+        if let Some(pair) = left {
+            return Evicted {
+                pushed: Some(pair),
+                pops,
+            };
         }
     }
 }
@@ -161,9 +143,9 @@ pub fn evict_if_needed(s: &mut [u8], z: Shape) -> Evicted
     requires { Held z s.old }
     ensures { Makes z s.old s.new (evict_if_full (state_in z s.old)) result }
 {
-    if residents_of(s, z) < store::capacity_of(s, z) {
+    if residents_of(s, z) < store::limit_of(s, z, Limit::Capacity) {
         return Evicted {
-            pushed: Pushed::Nothing,
+            pushed: None,
             pops: 0,
         };
     }

@@ -5,14 +5,14 @@ use Rattle.evict.proofs.evict.Goals as goal
 
 ruleset laws = (rules, heat, going_start, going_few, going_next, going_less, going_end)
 
-pub loop-q-init : goal.loop-q-init
-loop-q-init c = search laws
+pub loop-pair-init : goal.loop-pair-init
+loop-pair-init c = search laws
 
-pub loop-q-smaller : goal.loop-q-smaller
-loop-q-smaller c = search laws
+pub loop-pair-smaller : goal.loop-pair-smaller
+loop-pair-smaller c = search laws
 
-pub loop-q-preserved : goal.loop-q-preserved
-loop-q-preserved c = search laws
+pub loop-pair-preserved : goal.loop-pair-preserved
+loop-pair-preserved c = search laws
 
-pub returns-in-Left : goal.returns-in-Left
-returns-in-Left c = search laws
+pub returns-in-Some : goal.returns-in-Some
+returns-in-Some c = search laws

@@ -6,104 +6,102 @@ use mathlib.Core.List.{List, [], ◌∷◌, append-nil}
 use Prim.Native.Nat.{ℕ, ◌≤◌}
 use native.Mathlib.Omega.{arith}
 use lib.ListN.{length}
+use Rattle.std.specs.Prelude.{Option, Some, None}
 use Rattle.nodes.specs.declared.Shape.{Shape}
 use Rattle.rules.specs.declared.GuestBlock.{GuestBlock}
 use Rattle.rules.specs.declared.PhysicalBlock.{PhysicalBlock}
-use Rattle.rules.specs.State.{Entry, State, Queue, Small, Main, queue_of}
+use Rattle.rules.specs.State.{Entry, State, Queue, Main, queue_of}
 use Rattle.rules.specs.Records.{Reply, EX}
 use Rattle.rules.specs.Eviction.{wanted, back}
 use Rattle.rules.specs.Requests.{hands, first_queue}
-use Rattle.rules.proofs.PartsLaws.{nil, null-none, null-some}
+use Rattle.rules.proofs.PartsLaws.{nil}
 use Rattle.rules.proofs.EngineLaws.{first-pops, first-empty, second-pops}
 use Rattle.rules.proofs.SoundLaws.{back-sound}
 use Rattle.store.specs.Holds.{state_in, Held}
 use Rattle.store.specs.Seats.{EntryRemoved}
 use Rattle.wire.specs.declared.Reply.TheVariants.{Miss, Handed}
 use Rattle.wire.specs.Wire.{told}
-use Rattle.evict.specs.declared.Popped.{Popped}
-use Rattle.evict.specs.declared.Popped.TheVariants.{Back, Cold}
+use Rattle.evict.specs.declared.Cold.{Cold}
 use Rattle.evict.specs.Evicts.{PopsTail}
 use Rattle.evict.proofs.PopLaws.{cold-wanted}
-use Rattle.handing.specs.declared.Handing.{Handing}
-use Rattle.handing.specs.declared.Handing.TheVariants.{Out, Back as Stays}
 use Rattle.handing.specs.Handing.{Comes, Starts, first_of, PopsOut, second_of}
 use Rattle.handing.proofs.ComesLaws.{becomes-same, comes_as, comes_then}
 
 -- ---- a pop
 
 -- a cold tail is handed out
-cold-out : {z : Shape} {s s₁ s₂ : List ℕ} {q : Queue} {r : Popped} (p : PopsTail z s s₁ q r) {x : ℕ} {k : GuestBlock} {v : PhysicalBlock} → r ≡ Cold x k v
-    → EntryRemoved z s₁ s₂ q x → Comes z s s₂ (hands q p.before p.entry (state_in z s)) (told (Handed k v) ∷ [])
-cold-out {z} {s} {s₂ = s₂} {q = q} p {x} {k} {v} e m₀ =
-    let c = p.stays x k v e in
-    let m : EntryRemoved z s s₂ q x = rw c.same at m₀ in
+cold-out : {z : Shape} {s s₁ s₂ : List ℕ} {q : Queue} {r : Option Cold} (p : PopsTail z s s₁ q r) {d : Cold} → r ≡ Some d
+    → EntryRemoved z s₁ s₂ q d.node → Comes z s s₂ (hands q p.before p.entry (state_in z s)) (told (Handed d.key d.value) ∷ [])
+cold-out {z} {s} {s₂ = s₂} {q = q} p {d} e m₀ =
+    let c = p.stays d e in
+    let m : EntryRemoved z s s₂ q d.node = rw c.same at m₀ in
     record {
       becomes = rw (← append-nil p.before) (m.of p.before p.entry [] c.seat);
       replies = ap (λ (y : Entry). EX y.key y.value ∷ []) (sym c.pair);
     }
 
--- neither constructor is the other
-out-not : {k : GuestBlock} {v : PhysicalBlock} → Out k v ≡ Stays → ⊥
-out-not e = let z : ◌≡◌ {A = ℕ} 0 1 = cc in omega arith
+-- what a pop hands out
+abbrev Pair : Type 0
+Pair = Option (GuestBlock × PhysicalBlock)
 
-same-pair : {k l : GuestBlock} {v w : PhysicalBlock} → Out k v ≡ Out l w → (k ≡ l) × (v ≡ w)
-same-pair e = (cc, cc)
+-- no pair is none, and two that are one have the same blocks
+some-not : {y : GuestBlock × PhysicalBlock} → ◌≡◌ {A = Pair} (Some y) None → ⊥
+some-not e = let z : ◌≡◌ {A = ℕ} 0 1 = cc in omega arith
 
-module _ {z : Shape} {s s₁ : List ℕ} {q : Queue} {r : Popped} (p : PopsTail z s s₁ q r) where
-  pub out-back : r ≡ Back → PopsOut z s s₁ q Stays
-  out-back e =
+same-pair : {k l : GuestBlock} {v w : PhysicalBlock} → ◌≡◌ {A = Pair} (Some (k, v)) (Some (l, w)) → (k ≡ l) × (v ≡ w)
+same-pair {k} {l} {v} {w} e =
+    let i : ◌≡◌ {A = GuestBlock × PhysicalBlock} (k, v) (l, w) = cc in
+    (ap (λ (y : GuestBlock × PhysicalBlock). y.0) i, ap (λ (y : GuestBlock × PhysicalBlock). y.1) i)
+
+module _ {z : Shape} {s s₁ : List ℕ} {q : Queue} {r : Option Cold} (p : PopsTail z s s₁ q r) where
+  pub out-back : r ≡ None → {a : Pair} → a ≡ None → PopsOut z s s₁ q a
+  out-back e i =
       record {
         before = p.before;
         entry = p.entry;
         tail_is = p.tail_is;
-        cold = λ k v n. absurd (out-not (sym n));
-        out = λ k v n. absurd (out-not (sym n));
-        went = λ i. p.went e;
+        cold = λ k v n. absurd (some-not (sym n ∙ i));
+        out = λ k v n. absurd (some-not (sym n ∙ i));
+        went = λ j. p.went e;
       }
 
-  pub out-cold : {x : ℕ} {k : GuestBlock} {v : PhysicalBlock} → r ≡ Cold x k v → {s₂ : List ℕ} → EntryRemoved z s₁ s₂ q x → PopsOut z s s₂ q (Out k v)
-  out-cold {k = k} {v = v} e {s₂} m =
+  pub out-cold : {c : Cold} → r ≡ Some c → {s₂ : List ℕ} → EntryRemoved z s₁ s₂ q c.node → PopsOut z s s₂ q (Some (c.key, c.value))
+  out-cold {c} e {s₂} m =
       record {
         before = p.before;
         entry = p.entry;
         tail_is = p.tail_is;
         cold = λ l w n. cold-wanted p e;
         out = λ l w n. ap_pair l w (same-pair n);
-        went = λ i. absurd (out-not i);
+        went = λ i. absurd (some-not i);
       }
     where
-      ap_pair : (l : GuestBlock) (w : PhysicalBlock) → (k ≡ l) × (v ≡ w) → Comes z s s₂ (hands q p.before p.entry (state_in z s)) (told (Handed l w) ∷ [])
+      ap_pair : (l : GuestBlock) (w : PhysicalBlock) → (c.key ≡ l) × (c.value ≡ w)
+          → Comes z s s₂ (hands q p.before p.entry (state_in z s)) (told (Handed l w) ∷ [])
       ap_pair l w n = rw (← n.0, ← n.1) (cold-out p e m)
 
 -- ---- the second
 
-module _ {z : Shape} {s s₁ : List ℕ} {r : Handing} (p : PopsOut z s s₁ Main r) where
-  pub second_back : r ≡ Stays → Comes z s s₁ (second_of (state_in z s)) (told Miss ∷ [])
+module _ {z : Shape} {s s₁ : List ℕ} {r : Pair} (p : PopsOut z s s₁ Main r) where
+  pub second_back : r ≡ None → Comes z s s₁ (second_of (state_in z s)) (told Miss ∷ [])
   second_back e =
       comes_as (second-pops (state_in z s) p.before p.entry p.tail_is) (rw (p.went e).warm (record { becomes = (p.went e).becomes; replies = refl }))
 
-  pub second-out : {k : GuestBlock} {v : PhysicalBlock} → r ≡ Out k v → Comes z s s₁ (second_of (state_in z s)) (told (Handed k v) ∷ [])
+  pub second-out : {k : GuestBlock} {v : PhysicalBlock} → r ≡ Some (k, v) → Comes z s s₁ (second_of (state_in z s)) (told (Handed k v) ∷ [])
   second-out {k} {v} e = comes_as (second-pops (state_in z s) p.before p.entry p.tail_is) (rw (p.cold k v e) (p.out k v e))
 
 -- ---- the first
 
-module _ {z : Shape} {s : List ℕ} {n : ℕ} (e : n ≡ length (state_in z s).small) where
-  pub starts-main : n ≡ 0 → Starts z s Main
-  starts-main h = record { first = rw (null-none (state_in z s).small (sym e ∙ h)) }
-
-  pub starts-small : (n ≡ 0 → ⊥) → Starts z s Small
-  starts-small h = record { first = rw (null-some (state_in z s).small (λ m. h (e ∙ m))) }
-
-module _ {z : Shape} {s s₁ : List ℕ} {q : Queue} {r : Handing} (p : PopsOut z s s₁ q r) where
+module _ {z : Shape} {s s₁ : List ℕ} {q : Queue} {r : Pair} (p : PopsOut z s s₁ q r) where
   first_is : first_queue (state_in z s) ≡ q
       → first_of (state_in z s) ≡ cond (wanted p.entry) (second_of (back q p.before p.entry (state_in z s))) (hands q p.before p.entry (state_in z s))
   first_is f = first-pops (state_in z s) q p.before p.entry f p.tail_is
 
-  pub first_out : Starts z s q → {k : GuestBlock} {v : PhysicalBlock} → r ≡ Out k v → Comes z s s₁ (first_of (state_in z s)) (told (Handed k v) ∷ [])
+  pub first_out : Starts z s q → {k : GuestBlock} {v : PhysicalBlock} → r ≡ Some (k, v) → Comes z s s₁ (first_of (state_in z s)) (told (Handed k v) ∷ [])
   first_out f {k} {v} e = comes_as (first_is f.first) (rw (p.cold k v e) (p.out k v e))
 
   -- it went back to Main
-  module _ (e : r ≡ Stays) where
+  module _ (e : r ≡ None) where
     pub back-held : Held z s → Held z s₁
     back-held h =
         let b = (p.went e).becomes in

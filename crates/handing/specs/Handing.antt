@@ -1,6 +1,6 @@
 -- What evict_one's own pops and the drain of a queue come to, in the terms of the rules.
 -- Assumes nothing.
-use Rattle.std.specs.Prelude.{◌≡◌, false, List, [], ◌∷◌, ◌++◌, ℕ}
+use Rattle.std.specs.Prelude.{◌≡◌, false, List, [], ◌∷◌, ◌++◌, ℕ, Option, Some, None}
 use Rattle.nodes.specs.declared.Shape.{Shape}
 use Rattle.rules.specs.Parts.{pop_tail}
 use Rattle.rules.specs.declared.GuestBlock.{GuestBlock}
@@ -13,8 +13,6 @@ use Rattle.wire.specs.Wire.{told}
 use Rattle.store.specs.Holds.{state_in, Becomes}
 use Rattle.wire.specs.declared.Reply.TheVariants.{Handed}
 use Rattle.evict.specs.Evicts.{GoesBack}
-use Rattle.handing.specs.declared.Handing.{Handing}
-use Rattle.handing.specs.declared.Handing.TheVariants.{Out, Back}
 
 -- a part of a request came to o, and said l
 pub record Comes (z : Shape) (s s' : List ℕ) (o : Outcome) (l : List Reply) : Type 0 where
@@ -32,13 +30,13 @@ pub record Starts (z : Shape) (s : List ℕ) (q : Queue) : Type 0 where
   pub first : first_queue (state_in z s) ≡ q
 
 -- the tail of the queue q was popped by it: the pair was handed out, or it went to Main's head, cooled
-pub record PopsOut (z : Shape) (s s' : List ℕ) (q : Queue) (r : Handing) : Type 0 where
+pub record PopsOut (z : Shape) (s s' : List ℕ) (q : Queue) (r : Option (GuestBlock × PhysicalBlock)) : Type 0 where
   pub before : List Entry
   pub entry : Entry
   pub tail_is : queue_of q (state_in z s) ≡ before ++ (entry ∷ [])
-  pub cold : (k : GuestBlock) (v : PhysicalBlock) → r ≡ Out k v → wanted entry ≡ false
-  pub out : (k : GuestBlock) (v : PhysicalBlock) → r ≡ Out k v → Comes z s s' (hands q before entry (state_in z s)) (told (Handed k v) ∷ [])
-  pub went : r ≡ Back → GoesBack z s s' q before entry
+  pub cold : (k : GuestBlock) (v : PhysicalBlock) → r ≡ Some (k, v) → wanted entry ≡ false
+  pub out : (k : GuestBlock) (v : PhysicalBlock) → r ≡ Some (k, v) → Comes z s s' (hands q before entry (state_in z s)) (told (Handed k v) ∷ [])
+  pub went : r ≡ None → GoesBack z s s' q before entry
 
 -- its second pop, where the first one handed nothing out
 abbrev pub second_of : State → Outcome

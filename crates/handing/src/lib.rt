@@ -10,31 +10,19 @@ ghost use Rattle.store.specs.Seats.{queue_kind};
 ghost use Rattle.wire.specs.Wire.{told};
 ghost use Rattle.handing.specs.Handing.{Comes, first_of, Starts, PopsOut, second_of, Drained};
 
-use evict::Popped;
 use rules::{GuestBlock, PhysicalBlock};
 use store::{QueueKind, Shape};
 use wire::Reply;
 
-// What one of evict_one's own pops does: the pair is handed out, or it went back to Main's head.
-#[derive(Clone, Copy)]
-enum Handing {
-    Out(GuestBlock, PhysicalBlock),
-    Back,
-}
-
-// One of evict_one's own pops, from a queue that is not empty: a pair that leaves is handed out and becomes no ghost.
-fn pop_out(s: &mut [u8], z: Shape, q: QueueKind) -> Handing
+// One of evict_one's own pops, from a queue that is not empty: a pair that leaves is handed out and becomes no ghost; there is none where the entry
+// went back to Main's head.
+fn pop_out(s: &mut [u8], z: Shape, q: QueueKind) -> Option<(GuestBlock, PhysicalBlock)>
     requires { Held z s.old × (1 ≤ length (queue_of (queue_kind q) (state_in z s.old))) }
     ensures { PopsOut z s.old s.new (queue_kind q) result }
 {
-    let popped = evict::pop_tail(s, z, q);
-    match popped {
-        Popped::Back => Handing::Back,
-        Popped::Cold(x, k, v) => {
-            store::remove_at(s, z, q, x);
-            Handing::Out(k, v)
-        }
-    }
+    let cold = evict::pop_tail(s, z, q)?;
+    store::remove_at(s, z, q, cold.node);
+    Some((cold.key, cold.value))
 }
 
 // The second pop, from Main, which has the entry that the first one sent back.
@@ -42,10 +30,9 @@ fn second(s: &mut [u8], z: Shape) -> Reply
     requires { Held z s.old × (1 ≤ length (state_in z s.old).main) }
     ensures { Comes z s.old s.new (second_of (state_in z s.old)) (told result ∷ []) }
 {
-    let handing = pop_out(s, z, QueueKind::Main);
-    match handing {
-        Handing::Out(k, v) => Reply::Handed(k, v),
-        Handing::Back => Reply::Miss,
+    match pop_out(s, z, QueueKind::Main) {
+        Some((k, v)) => Reply::Handed(k, v),
+        None => Reply::Miss,
     }
 }
 
@@ -54,10 +41,9 @@ fn first(s: &mut [u8], z: Shape, q: QueueKind) -> Reply
     requires { Held z s.old × Starts z s.old (queue_kind q) × (1 ≤ length (queue_of (queue_kind q) (state_in z s.old))) }
     ensures { Comes z s.old s.new (first_of (state_in z s.old)) (told result ∷ []) }
 {
-    let handing = pop_out(s, z, q);
-    match handing {
-        Handing::Out(k, v) => Reply::Handed(k, v),
-        Handing::Back => second(s, z),
+    match pop_out(s, z, q) {
+        Some((k, v)) => Reply::Handed(k, v),
+        None => second(s, z),
     }
 }
 

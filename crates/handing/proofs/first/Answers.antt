@@ -8,8 +8,8 @@ ruleset laws = (rules, first_out, first_back, back-held, back_some)
 pub second-requires : goal.second-requires
 second-requires c = search laws
 
-pub returns-in-Out : goal.returns-in-Out
-returns-in-Out c = search laws
+pub returns-in-Some : goal.returns-in-Some
+returns-in-Some c = search laws
 
-pub returns-in-Back : goal.returns-in-Back
-returns-in-Back c = search laws
+pub returns-in-None : goal.returns-in-None
+returns-in-None c = search laws

@@ -5,8 +5,8 @@ use Rattle.handing.proofs.second.Goals as goal
 
 ruleset laws = (rules, second-out, second_back)
 
-pub returns-in-Out : goal.returns-in-Out
-returns-in-Out c = search laws
+pub returns-in-Some : goal.returns-in-Some
+returns-in-Some c = search laws
 
-pub returns-in-Back : goal.returns-in-Back
-returns-in-Back c = search laws
+pub returns-in-None : goal.returns-in-None
+returns-in-None c = search laws

@@ -44,6 +44,12 @@ module _ {z : Shape} {s : List ℕ} {k : ℕ} {r : Lookup} (l : Looks z s k r) w
   pub nowhere-absent : r ≡ Absent → Nowhere z s k
   nowhere-absent e = record { place_is = place_none k (state_in z s) (omega (arith, (l.absent e).none)) }
 
+-- no resident was found
+pub nowhere_else : {z : Shape} {s : List ℕ} {k : ℕ} {r : Lookup} → Looks z s k r → ((q : QueueKind) (x : ℕ) → r ≡ Resident q x → ⊥) → Nowhere z s k
+nowhere_else {r = Resident q x} l n = absurd (n q x refl)
+nowhere_else {r = Ghost x} l n = nowhere_ghost l refl
+nowhere_else {r = Absent} l n = nowhere-absent l refl
+
 module _ {z : Shape} {s : List ℕ} {k : ℕ} (h : Held z s) (n : Nowhere z s k) {a : Spoken} (w : a ≡ alone Miss) where
   missed : (q : Request) → apply (state_in z s) q ≡ says (state_in z s) MI → Answers z s s q a
   missed q e = answers (says (state_in z s) MI) e (becomes-same h.keeps) (ap spoken_of w) (λ u. refl)

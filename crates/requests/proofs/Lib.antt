@@ -2,4 +2,3 @@ pub mod KeyLaws
 pub mod InsertLaws
 pub mod EvictOneLaws
 pub mod ClearLaws
-pub mod AnswersLaws

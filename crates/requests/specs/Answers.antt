@@ -1,6 +1,6 @@
 -- What a request on the store comes to, in the terms of the rules: the state, and the replies.
 -- Assumes nothing.
-use Rattle.std.specs.Prelude.{◌≡◌, List, [], ◌∷◌, ◌++◌, ℕ}
+use Rattle.std.specs.Prelude.{◌≡◌, List, [], ◌∷◌, ◌++◌, ℕ, None}
 use Rattle.nodes.specs.declared.Shape.{Shape}
 use Rattle.rules.specs.State.{Queue}
 use Rattle.rules.specs.Records.{Request, Reply, Peeks}
@@ -9,7 +9,6 @@ use Rattle.rules.specs.Requests.{arrive, apply}
 use Rattle.wire.specs.Wire.{told}
 use Rattle.store.specs.Holds.{state_in, Becomes}
 use Rattle.wire.specs.declared.Reply.{Reply as Reply·}
-use Rattle.evict.specs.declared.Pushed.TheVariants.{Nothing}
 use Rattle.evict.specs.Evicts.{pushed_of}
 use Rattle.handing.specs.Handing.{Comes}
 use Rattle.requests.specs.declared.Spoken.{Spoken}
@@ -20,7 +19,7 @@ spoken_of r = pushed_of r.pushed ++ (told r.closing ∷ [])
 
 -- the closing reply alone
 abbrev pub alone : Reply· → Spoken
-alone r = record { pushed = Nothing; closing = r }
+alone r = record { pushed = None; closing = r }
 
 -- the request q was answered by r; a peek changed no byte
 pub record Answers (z : Shape) (s s' : List ℕ) (q : Request) (r : Spoken) : Type 0 where

@@ -16,10 +16,10 @@ use rules::{GuestBlock, PhysicalBlock};
 use store::{Lookup, QueueKind, Shape};
 use wire::Reply;
 
-// What a request answers: the pair that eviction pushed out, and the closing reply.
+// What a request answers: the pair that eviction pushed out, if it did, and the closing reply.
 #[derive(Clone, Copy)]
 pub struct Spoken {
-    pub pushed: Pushed,
+    pub pushed: Option<Pushed>,
     pub closing: Reply,
 }
 
@@ -28,7 +28,7 @@ fn alone(closing: Reply) -> Spoken
     ensures { result ≡ alone closing }
 {
     Spoken {
-        pushed: Pushed::Nothing,
+        pushed: None,
         closing,
     }
 }
@@ -49,17 +49,12 @@ fn get(s: &mut [u8], z: Shape, k: GuestBlock) -> Spoken
     requires { Held z s.old }
     ensures { Answers z s.old s.new (Request.GT k.0) result }
 {
-    let found = store::look(s, z, k);
-    match found {
-        Lookup::Resident(_, x) => {
-            let entry = store::entry_at(s, z, x);
-            let value = entry.value;
-            store::set_freq(s, z, x, raised(entry.freq));
-            alone(Reply::Hit(value))
-        }
-        Lookup::Ghost(_) => alone(Reply::Miss),
-        Lookup::Absent => alone(Reply::Miss),
-    }
+    let Lookup::Resident(_, x) = store::look(s, z, k) else {
+        return alone(Reply::Miss);
+    };
+    let entry = store::entry_at(s, z, x);
+    store::set_freq(s, z, x, raised(entry.freq));
+    alone(Reply::Hit(entry.value))
 }
 
 // Peek: the value, and no change at all.
@@ -67,15 +62,10 @@ fn peek(s: &[u8], z: Shape, k: GuestBlock) -> Spoken
     requires { Held z s.now }
     ensures { Answers z s.now s.now (Request.PK k.0) result }
 {
-    let found = store::look(s, z, k);
-    match found {
-        Lookup::Resident(_, x) => {
-            let v = store::entry_at(s, z, x).value;
-            alone(Reply::Hit(v))
-        }
-        Lookup::Ghost(_) => alone(Reply::Miss),
-        Lookup::Absent => alone(Reply::Miss),
-    }
+    let Lookup::Resident(_, x) = store::look(s, z, k) else {
+        return alone(Reply::Miss);
+    };
+    alone(Reply::Hit(store::entry_at(s, z, x).value))
 }
 
 // Remove: a resident pair goes out; the ghosts stay as they are.
@@ -83,16 +73,12 @@ fn remove(s: &mut [u8], z: Shape, k: GuestBlock) -> Spoken
     requires { Held z s.old }
     ensures { Answers z s.old s.new (Request.RM k.0) result }
 {
-    let found = store::look(s, z, k);
-    match found {
-        Lookup::Resident(q, x) => {
-            let v = store::entry_at(s, z, x).value;
-            store::remove_at(s, z, q, x);
-            alone(Reply::Gone(v))
-        }
-        Lookup::Ghost(_) => alone(Reply::Miss),
-        Lookup::Absent => alone(Reply::Miss),
-    }
+    let Lookup::Resident(q, x) = store::look(s, z, k) else {
+        return alone(Reply::Miss);
+    };
+    let gone = store::entry_at(s, z, x).value;
+    store::remove_at(s, z, q, x);
+    alone(Reply::Gone(gone))
 }
 
 // A pair whose key stands nowhere goes in: eviction first where the cache is full.
@@ -102,9 +88,8 @@ fn arrive(s: &mut [u8], z: Shape, q: QueueKind, k: GuestBlock, v: PhysicalBlock)
 {
     let evicted = evict::evict_if_needed(s, z);
     store::attach_head(s, z, q, k, v);
-    let pushed = evicted.pushed;
     Spoken {
-        pushed,
+        pushed: evicted.pushed,
         closing: Reply::New(evicted.pops),
     }
 }
@@ -115,13 +100,11 @@ fn insert(s: &mut [u8], z: Shape, k: GuestBlock, v: PhysicalBlock) -> Spoken
     requires { Held z s.old }
     ensures { Answers z s.old s.new (Request.IN k.0 v.0) result }
 {
-    let found = store::look(s, z, k);
-    match found {
+    match store::look(s, z, k) {
         Lookup::Resident(_, x) => {
-            let entry = store::entry_at(s, z, x);
-            let old = entry.value;
-            store::replace(s, z, x, v, raised(entry.freq));
-            alone(Reply::Replaced(old))
+            let old = store::entry_at(s, z, x);
+            store::replace(s, z, x, v, raised(old.freq));
+            alone(Reply::Replaced(old.value))
         }
         Lookup::Ghost(x) => {
             store::remove_ghost(s, z, x);
@@ -136,8 +119,7 @@ fn evict_one(s: &mut [u8], z: Shape) -> Spoken
     requires { Held z s.old }
     ensures { Answers z s.old s.new Request.EV result }
 {
-    let evicted = evict::evict_if_needed(s, z);
-    let pushed = evicted.pushed;
+    let pushed = evict::evict_if_needed(s, z).pushed;
     let closing = handing::hand_out(s, z);
     Spoken { pushed, closing }
 }

@@ -7,8 +7,8 @@ use Rattle.requests.proofs.insert.Goals as goal
 
 ruleset laws = (rules, looks_ghost_seated, looks_lacks, resident-node, insert_over, removed-held, removed_lacks, insert_ghost, insert_absent)
 
-pub entry_at-entry-requires : goal.entry_at-entry-requires
-entry_at-entry-requires c = search laws
+pub entry_at-old-requires : goal.entry_at-old-requires
+entry_at-old-requires c = search laws
 
 pub replace-requires : goal.replace-requires
 replace-requires c = search laws

@@ -2,22 +2,24 @@
 -- Assumes nothing.
 use mathlib.Core.Path.{◌≡◌, refl, sym, ap, ap₂, ◌∙◌, subst}
 use mathlib.Core.Bool.{true, false}
+use mathlib.Core.Logic.{◌⊎◌, inl, inr}
 use mathlib.Core.List.{List, [], ◌++◌}
 use Prim.Native.Nat.{ℕ, ◌+◌, ◌-◌, ◌≤◌, ◌<◌}
 use native.Mathlib.Omega.{arith}
 use native.Mathlib.Nat.{add-zero, sub-zero}
-use lib.ListN.{length, take, drop, length-take, drop_of_length-le}
+use lib.ListN.{length, take, drop, drop_of_length-le}
 use mir.Syntax.{w64}
 use mir.Val.{Fits}
+use Rattle.std.specs.Prelude.{Result, Ok, Err}
 use Rattle.rules.specs.Bytes.{longest_record, spot_at, End, whole, unknown_at, cut_at, Parsed, parse_from, parse, room_for, encode_all}
 use Rattle.rules.specs.Carry.{most_kept, Carry, waits, last_offset, left_by, carry_bytes, kept_room}
 use Rattle.nodes.specs.declared.Shape.{Shape}
+use Rattle.rules.specs.declared.Turned.{Turned}
 use Rattle.rules.specs.declared.Turned.TheVariants.{NoRoom}
 use Rattle.rules.specs.Records.{Request}
 use Rattle.rules.specs.Requests.{run}
 use Rattle.rules.specs.Refusals.{most_request_bytes}
 use Rattle.rules.proofs.StreamLaws.{parse-room, room-append, EndsIn, parse-within}
-use Rattle.wire.specs.declared.Stop.{Stop}
 use Rattle.wire.specs.declared.Stop.TheVariants.{Whole as All, Unknown as Strange, Cut as Short}
 use Rattle.wire.specs.declared.Survey.{Survey}
 use Rattle.wire.specs.Wire.{end_at, stop_of, surveyed}
@@ -30,19 +32,15 @@ use Rattle.carry.specs.Heads.{HeadJoins}
 use Rattle.carry.proofs.CarriesLaws as lent
 use Rattle.store.specs.Holds.{Held}
 use Rattle.runs.specs.declared.Fed.{Fed}
-use Rattle.runs.specs.declared.Fed.TheVariants.{Done, Stopped, Refused}
-use Rattle.runs.specs.Runs.{Runs, WentOn, FedRan, FedOn}
+use Rattle.runs.specs.declared.Fed.TheVariants.{Done, Stopped}
+use Rattle.runs.specs.Runs.{Runs, asked_across, FedRan, FedOn}
 use Rattle.runs.proofs.RunLaws.{splice-none, runs-room, runs-runs}
 
 -- ---- what stands in front of a piece, and the piece from an offset on
 
 module _ (head piece : List ℕ) (from : ℕ) {v w : Survey} (g : v ≡ surveyed (length head) (parse head))
     (h : w ≡ surveyed (length piece) (parse_from piece from)) where
-  -- what all of it asks for
-  abbrev both : List Request
-  both = (parse head).requests ++ (parse_from piece from).requests
-
-  rooms : v.room + w.room ≡ room_for both
+  rooms : v.room + w.room ≡ room_for (asked_across head piece from)
   rooms = ap₂ (λ (x y : Survey). x.room + y.room) g h ∙ sym (room-append (parse head).requests (parse_from piece from).requests)
 
   module _ (few : length head ≤ longest_record) (in-piece : from ≤ length piece) (most : length piece ≤ most_request_bytes) where
@@ -58,15 +56,15 @@ module _ (head piece : List ℕ) (from : ℕ) {v w : Survey} (g : v ≡ surveyed
 
   -- no room
   pub whole-refused : {z : Shape} {s c p : List ℕ} (k : Carry) → length p < v.room + w.room → {i : ℕ} → i ≡ v.room + w.room
-      → FedOn z s s c c p p both k (Refused (NoRoom i))
+      → FedOn z s s c c p p (asked_across head piece from) k (Err (NoRoom i))
   whole-refused {p = p} k l {i} e =
       record { fed = (ap NoRoom (e ∙ rooms), subst (λ (n : ℕ). length p < n) rooms l, refl, refl, refl) }
 
-  pub both-ready : {p : List ℕ} → v.room + w.room ≤ length p → HasRoom both p 0
+  pub both-ready : {p : List ℕ} → v.room + w.room ≤ length p → HasRoom (asked_across head piece from) p 0
   both-ready l = record { within = omega arith; room = omega (arith, rooms) }
 
 -- the two runs
-module _ (head piece : List ℕ) (from : ℕ) {p : List ℕ} (r : HasRoom ((parse head).requests ++ (parse_from piece from).requests) p 0) where
+module _ (head piece : List ℕ) (from : ℕ) {p : List ℕ} (r : HasRoom (asked_across head piece from) p 0) where
   room-both : room_for (parse head).requests + room_for (parse_from piece from).requests ≤ length p
   room-both = let l = r.room in omega (arith, room-append (parse head).requests (parse_from piece from).requests)
 
@@ -80,7 +78,7 @@ module _ (head piece : List ℕ) (from : ℕ) {p : List ℕ} (r : HasRoom ((pars
     piece-ready = runs-room a (parse_from piece from).requests room-both
 
     pub both-ran : {s₂ p₂ : List ℕ} {n : ℕ} → Runs z s₁ s₂ (parse_from piece from).requests p₁ p₂ m n
-        → Runs z s s₂ ((parse head).requests ++ (parse_from piece from).requests) p p₂ 0 n
+        → Runs z s s₂ (asked_across head piece from) p p₂ 0 n
     unfolding parse
     both-ran b = runs-runs a b room-both
 
@@ -118,82 +116,65 @@ module _ (piece : List ℕ) (from : ℕ) {w : Survey} (h : w ≡ surveyed (lengt
   pub end_fits : from ≤ length piece → (base : ℕ) → base + length piece ≤ last_offset → Fits w64 (base + w.at)
   end_fits l base b = let i = end-within piece e (parse-within piece from l) in record { fits = omega (arith, at-is) }
 
-  module _ {t : Stop} (is : t ≡ w.stop) where
-    stop_is : t ≡ stop_of e
-    stop_is = is ∙ ap (λ (y : Survey). y.stop) h
+  stop_is : w.stop ≡ stop_of e
+  stop_is = ap (λ (y : Survey). y.stop) h
 
-    at_cut : t ≡ Short → e ≡ cut_at w.at
-    at_cut k = short-end (length piece) e (sym stop_is ∙ k) ∙ ap cut_at (sym at-is)
+  at_cut : w.stop ≡ Short → e ≡ cut_at w.at
+  at_cut k = short-end (length piece) e (sym stop_is ∙ k) ∙ ap cut_at (sym at-is)
 
-    at-whole : t ≡ All → (e ≡ whole) × (w.at ≡ length piece)
-    at-whole k = let q = all_end e (sym stop_is ∙ k) in (q, at-is ∙ ap (end_at (length piece)) q)
+  at-whole : w.stop ≡ All → (e ≡ whole) × (w.at ≡ length piece)
+  at-whole k = let q = all_end e (sym stop_is ∙ k) in (q, at-is ∙ ap (end_at (length piece)) q)
 
-    -- what is cut has room in the record
-    module _ (k : t ≡ Short) (l : from ≤ length piece) where
-      there : EndsIn piece (cut_at w.at)
-      there = subst (EndsIn piece) (at_cut k) (parse-within piece from l)
+  -- what goes on has room in the record: a record that is cut, or nothing
+  kept_part : (w.stop ≡ Short) ⊎ (w.stop ≡ All) → from ≤ length piece → (w.at ≤ length piece) × (length piece ≤ w.at + kept_room)
+  kept_part (inl k) l = let r = subst (EndsIn piece) (at_cut k) (parse-within piece from l) in (r.0, omega (arith, r.1))
+  kept_part (inr k) l = let q = (at-whole k).1 in (omega arith, omega arith)
 
-      pub cut_inside : w.at ≤ length piece
-      cut_inside = there.0
+  pub goes_inside : (w.stop ≡ Short) ⊎ (w.stop ≡ All) → from ≤ length piece → w.at ≤ length piece
+  goes_inside k l = (kept_part k l).0
 
-      pub cut-room : length piece ≤ w.at + kept_room
-      cut-room = omega (arith, there.1)
+  pub goes-room : (w.stop ≡ Short) ⊎ (w.stop ≡ All) → from ≤ length piece → length piece ≤ w.at + kept_room
+  goes-room k l = (kept_part k l).1
 
-    pub whole-inside : t ≡ All → w.at ≤ length piece
-    whole-inside k = let q = (at-whole k).1 in omega arith
+  left-strange : w.stop ≡ Strange → (base : ℕ) → record { offset = base + w.at; kept = drop (length piece) piece; stopped = true } ≡ left_by base piece e
+  left-strange k base =
+      let q : e ≡ unknown_at w.at = strange-end (length piece) e (sym stop_is ∙ k) ∙ ap unknown_at (sym at-is) in
+      ap (λ (l : List ℕ). record { offset = base + w.at; kept = l; stopped = true }) (drop_of_length-le piece {i = length piece} (omega arith))
+      ∙ ap (left_by base piece) (sym q)
 
-    pub whole_room : t ≡ All → length piece ≤ w.at + kept_room
-    whole_room k = let q = (at-whole k).1 in omega arith
-
-    left-strange : t ≡ Strange → (base : ℕ) → record { offset = base + w.at; kept = drop (length piece) piece; stopped = true } ≡ left_by base piece e
-    left-strange k base =
-        let q : e ≡ unknown_at w.at = strange-end (length piece) e (sym stop_is ∙ k) ∙ ap unknown_at (sym at-is) in
-        ap (λ (l : List ℕ). record { offset = base + w.at; kept = l; stopped = true }) (drop_of_length-le piece {i = length piece} (omega arith))
-        ∙ ap (left_by base piece) (sym q)
-
-    left_cut : t ≡ Short → (base : ℕ) → record { offset = base + w.at; kept = drop w.at piece; stopped = false } ≡ left_by base piece e
-    left_cut k base = ap (left_by base piece) (sym (at_cut k))
-
-    left-whole : t ≡ All → (base : ℕ) → record { offset = base + w.at; kept = drop w.at piece; stopped = false } ≡ left_by base piece e
-    left-whole k base =
-        let q = at-whole k in
-        ap₂ (λ (o : ℕ) (l : List ℕ). record { offset = base + o; kept = l; stopped = false }) q.1 (drop_of_length-le piece {i = w.at} (omega (arith, q.1)))
-        ∙ ap (left_by base piece) (sym q.0)
+  left_goes : (w.stop ≡ Short) ⊎ (w.stop ≡ All) → (base : ℕ)
+      → record { offset = base + w.at; kept = drop w.at piece; stopped = false } ≡ left_by base piece e
+  left_goes (inl k) base = ap (left_by base piece) (sym (at_cut k))
+  left_goes (inr k) base =
+      let q = at-whole k in
+      ap₂ (λ (o : ℕ) (l : List ℕ). record { offset = base + o; kept = l; stopped = false }) q.1 (drop_of_length-le piece {i = w.at} (omega (arith, q.1)))
+      ∙ ap (left_by base piece) (sym q.0)
 
 -- ---- the answers of `feed_whole`
 
 module _ (head piece : List ℕ) (from : ℕ) {v w : Survey} (g : v ≡ surveyed (length head) (parse head))
-    (h : w ≡ surveyed (length piece) (parse_from piece from)) {t : Stop} (is : t ≡ w.stop) (p : List ℕ) (enough : v.room + w.room ≤ length p)
-    {z : Shape} {s s₂ p₂ : List ℕ} {n : ℕ} (a : Runs z s s₂ ((parse head).requests ++ (parse_from piece from).requests) p p₂ 0 n)
+    (h : w ≡ surveyed (length piece) (parse_from piece from)) (p : List ℕ) (enough : v.room + w.room ≤ length p)
+    {z : Shape} {s s₂ p₂ : List ℕ} {n : ℕ} (a : Runs z s s₂ (asked_across head piece from) p p₂ 0 n)
     (base : ℕ) {c c' : List ℕ} where
-  ran : {k l : Carry} → k ≡ l → CarryPut c k c' → FedRan z s s₂ c c' p p₂ ((parse head).requests ++ (parse_from piece from).requests) l n
+  ran : {k l : Carry} → k ≡ l → CarryPut c k c' → FedRan z s s₂ c c' p p₂ (asked_across head piece from) l n
   ran {k} {l} q u = record { runs = a; room = omega (arith, rooms head piece from g h); put = (subst (λ (x : Carry). CarryPut c x c') q u).is }
 
-  goes : {o : ℕ} {l : List ℕ} {k : Carry} {r : Fed} → record { offset = o; kept = l; stopped = false } ≡ k
-      → WentOn c (record { offset = o; kept = l; stopped = false }) c' n r
-      → FedOn z s s₂ c c' p p₂ ((parse head).requests ++ (parse_from piece from).requests) k r
-  goes {k = k} q u =
-      subst (FedOn z s s₂ c c' p p₂ ((parse head).requests ++ (parse_from piece from).requests) k) (sym u.answer)
-      (record { fed = (ap (λ (x : Carry). x.stopped) (sym q), ran q u.put) })
-
-  pub whole-stopped : t ≡ Strange → CarryPut c (record { offset = base + w.at; kept = drop (length piece) piece; stopped = true }) c'
-      → FedOn z s s₂ c c' p p₂ ((parse head).requests ++ (parse_from piece from).requests) (left_by base piece (parse_from piece from).end)
-      (Stopped n (base + w.at))
+  pub whole-stopped : w.stop ≡ Strange → CarryPut c (record { offset = base + w.at; kept = drop (length piece) piece; stopped = true }) c'
+      → FedOn z s s₂ c c' p p₂ (asked_across head piece from) (left_by base piece (parse_from piece from).end) (Ok (Stopped n (base + w.at)))
   whole-stopped k u =
-      let q = left-strange piece from h is k base in
+      let q = left-strange piece from h k base in
       record { fed = (ap (λ (x : Carry). x.stopped) (sym q), ap (λ (x : Carry). x.offset) (sym q), ran q u) }
 
-  pub whole-cut : t ≡ Short → {r : Fed} → WentOn c (record { offset = base + w.at; kept = drop w.at piece; stopped = false }) c' n r
-      → FedOn z s s₂ c c' p p₂ ((parse head).requests ++ (parse_from piece from).requests) (left_by base piece (parse_from piece from).end) r
-  whole-cut k u = goes (left_cut piece from h is k base) u
-
-  pub whole-done : t ≡ All → {r : Fed} → WentOn c (record { offset = base + w.at; kept = drop w.at piece; stopped = false }) c' n r
-      → FedOn z s s₂ c c' p p₂ ((parse head).requests ++ (parse_from piece from).requests) (left_by base piece (parse_from piece from).end) r
-  whole-done k u = goes (left-whole piece from h is k base) u
+  pub whole-goes : (w.stop ≡ Short) ⊎ (w.stop ≡ All)
+      → CarryPut c (record { offset = base + w.at; kept = drop w.at piece; stopped = false }) c'
+      → FedOn z s s₂ c c' p p₂ (asked_across head piece from) (left_by base piece (parse_from piece from).end) (Ok (Done n))
+  whole-goes k u =
+      let q = left_goes piece from h k base in
+      record { fed = (ap (λ (x : Carry). x.stopped) (sym q), ran q u) }
 
 -- ---- the answers of `feed_going`
 
-module _ {bs : List ℕ} {o n : ℕ} (b : Brings bs (Going o n)) where
+module _ {bs : List ℕ} {o n : ℕ} (b : Brings bs (Ok (Going o n))) where
   pub brings_long : carry_bytes ≤ length bs
   brings_long = lent.going_long b refl
 
@@ -202,10 +183,6 @@ module _ {bs : List ℕ} {o n : ℕ} (b : Brings bs (Going o n)) where
 
   pub brings_waits : waits (spot_at (kept_in bs n) 0) ≡ true
   brings_waits = lent.going_waits b refl
-
--- the buffer has the bytes of one record
-pub part-few : (m : ℕ) (head : List ℕ) → length head ≡ longest_record → length (take (m - 0) head) ≤ longest_record
-part-few m head h = omega (arith, length-take (m - 0) head)
 
 -- no request was carried out
 none-ran : {z : Shape} {s p c c' : List ℕ} {k : Carry} → Held z s → CarryPut c k c' → FedRan z s s c c' p p [] k 0
@@ -224,7 +201,7 @@ none-ran {p = p} h u =
       put = u.is;
     }
 
-module _ {bs : List ℕ} {o n : ℕ} (b : Brings bs (Going o n)) {piece head : List ℕ} {r : Head} (j : HeadJoins (kept_in bs n) piece head r) where
+module _ {bs : List ℕ} {o n : ℕ} (b : Brings bs (Ok (Going o n))) {piece head : List ℕ} {r : Head} (j : HeadJoins (kept_in bs n) piece head r) where
   abbrev all : List ℕ
   all = kept_in bs n ++ piece
 
@@ -233,28 +210,25 @@ module _ {bs : List ℕ} {o n : ℕ} (b : Brings bs (Going o n)) {piece head : L
     pub cut-part : m ≤ length head
     cut-part = (j.cut m is).fits
 
-    pub cut-few : length (take (m - 0) head) ≤ 0 + kept_room
-    cut-few = let f = (j.cut m is).few in omega (arith, length-take (m - 0) head)
-
     pub going_cut : {z : Shape} {s p bs' : List ℕ} → Held z s → CarryPut bs (record { offset = o; kept = drop 0 (take (m - 0) head); stopped = false }) bs'
-        → FedOn z s s bs bs' p p (parse all).requests (left_by o all (parse all).end) (Done 0)
+        → FedOn z s s bs bs' p p (parse all).requests (left_by o all (parse all).end) (Ok (Done 0))
     going_cut {z} {s} {p} {bs'} h u =
         let c = j.cut m is in
         let l : take (m - 0) head ≡ all = ap (λ (i : ℕ). take i head) (sub-zero m) ∙ c.all in
         let q : record { offset = o; kept = take (m - 0) head; stopped = false } ≡ left_by o all (cut_at 0) =
         ap₂ (λ (i : ℕ) (x : List ℕ). record { offset = i; kept = x; stopped = false }) (sym (add-zero o)) l in
-        subst (λ (x : Parsed Request). FedOn z s s bs bs' p p x.requests (left_by o all x.end) (Done 0)) (sym c.cut)
+        subst (λ (x : Parsed Request). FedOn z s s bs bs' p p x.requests (left_by o all x.end) (Ok (Done 0))) (sym c.cut)
         (record { fed = (refl, none-ran h (subst (λ (x : Carry). CarryPut bs x bs') q u)) })
 
   -- a mark that is none
   pub going_unknown : r ≡ Unknown → {z : Shape} {s p bs' : List ℕ} → Held z s
       → CarryPut bs (record { offset = o; kept = drop (length piece) piece; stopped = true }) bs'
-      → FedOn z s s bs bs' p p (parse all).requests (left_by o all (parse all).end) (Stopped 0 o)
+      → FedOn z s s bs bs' p p (parse all).requests (left_by o all (parse all).end) (Ok (Stopped 0 o))
   going_unknown is {z} {s} {p} {bs'} h u =
       let q : record { offset = o; kept = drop (length piece) piece; stopped = true } ≡ left_by o all (unknown_at 0) =
       ap₂ (λ (i : ℕ) (x : List ℕ). record { offset = i; kept = x; stopped = true }) (sym (add-zero o))
       (drop_of_length-le piece {i = length piece} (omega arith)) in
-      subst (λ (x : Parsed Request). FedOn z s s bs bs' p p x.requests (left_by o all x.end) (Stopped 0 o)) (sym (j.unknown is))
+      subst (λ (x : Parsed Request). FedOn z s s bs bs' p p x.requests (left_by o all x.end) (Ok (Stopped 0 o))) (sym (j.unknown is))
       (record { fed = (refl, add-zero o, none-ran h (subst (λ (x : Carry). CarryPut bs x bs') q u)) })
 
   -- a whole record, or nothing, and the rest of the piece
@@ -265,10 +239,7 @@ module _ {bs : List ℕ} {o n : ℕ} (b : Brings bs (Going o n)) {piece head : L
     pub whole-begun : n ≤ m
     whole-begun = let c = (j.whole m is).begun in omega (arith, lent.going_kept b refl)
 
-    pub whole_in : m - n ≤ length piece
-    whole_in = let c = (j.whole m is).within in omega (arith, lent.going_kept b refl)
-
-    pub going_whole : {z : Shape} {s s' bs' p p' : List ℕ} {a : Fed}
+    pub going_whole : {z : Shape} {s s' bs' p p' : List ℕ} {a : Result Fed Turned}
         → FedOn z s s' bs bs' p p' ((parse (take (m - 0) head)).requests ++ (parse_from piece (m - n)).requests)
         (left_by (o + n) piece (parse_from piece (m - n)).end) a
         → FedOn z s s' bs bs' p p' (parse all).requests (left_by o all (parse all).end) a

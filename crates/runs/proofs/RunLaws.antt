@@ -6,6 +6,7 @@ use Prim.Native.Nat.{ℕ, ◌+◌, ◌-◌, ◌≤◌, ◌<◌}
 use native.Mathlib.Omega.{arith}
 use native.Mathlib.Nat.{add-zero}
 use lib.ListN.{length, take, drop, length-append, take-append-drop}
+use Rattle.std.specs.Prelude.{Option, Some, None}
 use Rattle.cells.specs.Cells.{Bytes}
 use Rattle.nodes.specs.Nodes.{Rest, cols}
 use Rattle.nodes.specs.declared.Shape.{Shape}
@@ -18,8 +19,6 @@ use Rattle.rules.proofs.LedgerLaws.{run-append}
 use Rattle.rules.proofs.StreamLaws.{room-append}
 use Rattle.cells.proofs.MembersLaws.{every-left, every_right}
 use Rattle.rules.proofs.ParseLaws.{parse-step, parse-sized-from, read_goes}
-use Rattle.rules.specs.declared.GuestBlock.{GuestBlock}
-use Rattle.rules.specs.declared.PhysicalBlock.{PhysicalBlock}
 use Rattle.wire.specs.declared.Reply.{Reply as Reply·}
 use Rattle.wire.specs.declared.Request.{Request as Request·}
 use Rattle.wire.specs.declared.Record.{Record}
@@ -29,7 +28,7 @@ use Rattle.wire.specs.CarriedOut.{HasRoom}
 use Rattle.wire.proofs.SpliceLaws.{wrote-wrote, wrote-length}
 use Rattle.wire.proofs.ProgressLaws.{Progress, progress_start, progress-fits, progress-sound, progress-next, progress-end}
 use Rattle.evict.specs.declared.Pushed.{Pushed}
-use Rattle.evict.specs.declared.Pushed.TheVariants.{Nothing, FromSmall, FromMain}
+use Rattle.store.specs.declared.QueueKind.TheVariants.{Small, Main}
 use Rattle.evict.specs.Evicts.{pushed_of}
 use Rattle.requests.specs.declared.Spoken.{Spoken}
 use Rattle.requests.specs.Answers.{spoken_of, Answers}
@@ -47,40 +46,42 @@ unfolding splice
 splice-none p i h = sym (ap₂ (λ (a : List ℕ) (n : ℕ). a ++ drop n p) (append-nil (take i p)) (add-zero i) ∙ take-append-drop i p)
 
 -- no pair was pushed out
-pub put-nothing : {p : List ℕ} {i : ℕ} (w : Pushed) → w ≡ Nothing → i + length (encode_all (pushed_of w)) ≤ length p → Wrote p i (encode_all (pushed_of w)) p i
+pub put-nothing : {p : List ℕ} {i : ℕ} (w : Option Pushed) → w ≡ None → i + length (encode_all (pushed_of w)) ≤ length p
+    → Wrote p i (encode_all (pushed_of w)) p i
 unfolding encode_all
 put-nothing {p} {i} w e h = rw e (record { bytes = splice-none p i (omega arith); end = sym (add-zero i) })
 
 -- one was: its reply is all
-module _ (w : Pushed) {k : GuestBlock} {v : PhysicalBlock} where
-  pub put_small : w ≡ FromSmall k v → {p p' : List ℕ} {i m : ℕ} → Wrote p i (encode (ES k.0 v.0)) p' m → Wrote p i (encode_all (pushed_of w)) p' m
-  put_small e h = rw (e, encode_one (ES k.0 v.0)) h
+module _ (w : Option Pushed) {y : Pushed} (one : w ≡ Some y) where
+  pub put_small : y.from ≡ Small → {p p' : List ℕ} {i m : ℕ} → Wrote p i (encode (ES y.key.0 y.value.0)) p' m → Wrote p i (encode_all (pushed_of w)) p' m
+  put_small e h = rw (one, e, encode_one (ES y.key.0 y.value.0)) h
 
-  pub put-main : w ≡ FromMain k v → {p p' : List ℕ} {i m : ℕ} → Wrote p i (encode (EM k.0 v.0)) p' m → Wrote p i (encode_all (pushed_of w)) p' m
-  put-main e h = rw (e, encode_one (EM k.0 v.0)) h
+  pub put-main : y.from ≡ Main → {p p' : List ℕ} {i m : ℕ} → Wrote p i (encode (EM y.key.0 y.value.0)) p' m → Wrote p i (encode_all (pushed_of w)) p' m
+  put-main e h = rw (one, e, encode_one (EM y.key.0 y.value.0)) h
 
-  pub small_fits : w ≡ FromSmall k v → {n : ℕ} (i : ℕ) → i + length (encode_all (pushed_of w)) ≤ n → i + length (encode (ES k.0 v.0)) ≤ n
-  small_fits e i h = rw (e, encode_one (ES k.0 v.0)) at h
+  pub small_fits : y.from ≡ Small → {n : ℕ} (i : ℕ) → i + length (encode_all (pushed_of w)) ≤ n → i + length (encode (ES y.key.0 y.value.0)) ≤ n
+  small_fits e i h = rw (one, e, encode_one (ES y.key.0 y.value.0)) at h
 
-  pub main-fits : w ≡ FromMain k v → {n : ℕ} (i : ℕ) → i + length (encode_all (pushed_of w)) ≤ n → i + length (encode (EM k.0 v.0)) ≤ n
-  main-fits e i h = rw (e, encode_one (EM k.0 v.0)) at h
+  pub main-fits : y.from ≡ Main → {n : ℕ} (i : ℕ) → i + length (encode_all (pushed_of w)) ≤ n → i + length (encode (EM y.key.0 y.value.0)) ≤ n
+  main-fits e i h = rw (one, e, encode_one (EM y.key.0 y.value.0)) at h
 
 -- the pair and the closing reply
-spoken_bytes : (w : Pushed) (r : Reply·) → encode_all (pushed_of w ++ (told r ∷ [])) ≡ encode_all (pushed_of w) ++ encode (told r)
+spoken_bytes : (w : Option Pushed) (r : Reply·) → encode_all (pushed_of w ++ (told r ∷ [])) ≡ encode_all (pushed_of w) ++ encode (told r)
 spoken_bytes w r = encode-append (pushed_of w) (told r ∷ []) ∙ ap (λ l. encode_all (pushed_of w) ++ l) (encode_one (told r))
 
-spoken_length : (w : Pushed) (r : Reply·) → length (encode_all (pushed_of w ++ (told r ∷ []))) ≡ length (encode_all (pushed_of w)) + length (encode (told r))
+spoken_length : (w : Option Pushed) (r : Reply·)
+    → length (encode_all (pushed_of w ++ (told r ∷ []))) ≡ length (encode_all (pushed_of w)) + length (encode (told r))
 spoken_length w r = ap length (spoken_bytes w r) ∙ length-append (encode_all (pushed_of w)) (encode (told r))
 
-pub first_fits : {n : ℕ} (i : ℕ) (w : Pushed) (r : Reply·) → i + length (encode_all (pushed_of w ++ (told r ∷ []))) ≤ n
+pub first_fits : {n : ℕ} (i : ℕ) (w : Option Pushed) (r : Reply·) → i + length (encode_all (pushed_of w ++ (told r ∷ []))) ≤ n
     → i + length (encode_all (pushed_of w)) ≤ n
 first_fits i w r h = omega (arith, spoken_length w r)
 
-pub closing-fits : {p p₁ : List ℕ} {i m : ℕ} (w : Pushed) (r : Reply·) → i + length (encode_all (pushed_of w ++ (told r ∷ []))) ≤ length p
+pub closing-fits : {p p₁ : List ℕ} {i m : ℕ} (w : Option Pushed) (r : Reply·) → i + length (encode_all (pushed_of w ++ (told r ∷ []))) ≤ length p
     → Wrote p i (encode_all (pushed_of w)) p₁ m → length p₁ ≡ length p → m + length (encode (told r)) ≤ length p₁
 closing-fits w r h g e = omega (arith, spoken_length w r, g.end)
 
-pub spoken_wrote : {p p₁ p₂ : List ℕ} {i m k : ℕ} (w : Pushed) (r : Reply·) → i + length (encode_all (pushed_of w ++ (told r ∷ []))) ≤ length p
+pub spoken_wrote : {p p₁ p₂ : List ℕ} {i m k : ℕ} (w : Option Pushed) (r : Reply·) → i + length (encode_all (pushed_of w ++ (told r ∷ []))) ≤ length p
     → Wrote p i (encode_all (pushed_of w)) p₁ m → Wrote p₁ m (encode (told r)) p₂ k → Wrote p i (encode_all (pushed_of w ++ (told r ∷ []))) p₂ k
 spoken_wrote {p} {p₁} {p₂} {i} {m} {k} w r h a b = rw (spoken_bytes w r) (wrote-wrote a b (omega (arith, spoken_length w r)))
 
@@ -149,7 +150,6 @@ module _ {z : Shape} {s₀ s q : List ℕ} {at₀ : ℕ} {p₀ p : List ℕ} {ou
             sized = m.sized;
           }
 
-  -- nothing more is read, whatever ends the records
   ended : {r : Reading Request} → r ≡ reading_at q at → (on_reading (parse_from q) at r).requests ≡ [] → Runs z s₀ s (parse_from q at₀).requests p₀ p out₀ out
   ended e n =
       record {
@@ -161,14 +161,13 @@ module _ {z : Shape} {s₀ s q : List ℕ} {at₀ : ℕ} {p₀ p : List ℕ} {ou
         sized = m.sized;
       }
 
-  pub midway_end : {x : Record} → meaning x ≡ reading_at q at → x ≡ Over → Runs z s₀ s (parse_from q at₀).requests p₀ p out₀ out
-  midway_end read is = ended (ap meaning (sym is) ∙ read) refl
-
-  pub midway_unknown : {x : Record} → meaning x ≡ reading_at q at → x ≡ Unknown → Runs z s₀ s (parse_from q at₀).requests p₀ p out₀ out
-  midway_unknown read is = ended (ap meaning (sym is) ∙ read) refl
-
-  pub midway_cut : {x : Record} → meaning x ≡ reading_at q at → x ≡ Cut → Runs z s₀ s (parse_from q at₀).requests p₀ p out₀ out
-  midway_cut read is = ended (ap meaning (sym is) ∙ read) refl
+  -- nothing more is read, whatever ends the records
+  pub midway_over : (x : Record) → meaning x ≡ reading_at q at → ((k : Request·) (after : ℕ) → x ≡ Ask k after → ⊥)
+      → Runs z s₀ s (parse_from q at₀).requests p₀ p out₀ out
+  midway_over (Ask k after) read d = absurd (d k after refl)
+  midway_over Unknown read d = ended read refl
+  midway_over Cut read d = ended read refl
+  midway_over Over read d = ended read refl
 
 -- ---- one run after the other
 

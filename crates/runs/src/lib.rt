@@ -2,9 +2,9 @@
 // completes, with the record that was cut before it. What is asked of the bytes and of the reply room is asked by the calls above.
 #![tactic(auto)]
 
-ghost use Rattle.std.specs.Prelude.{false, ◌++◌, ◌+◌, ◌≤◌, length, drop};
+ghost use Rattle.std.specs.Prelude.{◌++◌, ◌+◌, ◌≤◌, length, Ok};
 ghost use Rattle.rules.specs.Bytes.{longest_record, encode_all, parse_from, parse};
-ghost use Rattle.rules.specs.Carry.{last_offset, carry_bytes, kept_room, left_by};
+ghost use Rattle.rules.specs.Carry.{last_offset, carry_bytes, left_by};
 ghost use Rattle.rules.specs.Refusals.{most_request_bytes};
 ghost use Rattle.wire.specs.Wire.{Wrote};
 ghost use Rattle.wire.specs.CarriedOut.{HasRoom};
@@ -12,35 +12,37 @@ ghost use Rattle.carry.specs.Carries.{kept_in, Brings};
 ghost use Rattle.evict.specs.Evicts.{pushed_of};
 ghost use Rattle.requests.specs.Answers.{spoken_of};
 ghost use Rattle.store.specs.Holds.{Held};
-ghost use Rattle.runs.specs.Runs.{Runs, WentOn, FedOn};
+ghost use Rattle.runs.specs.Runs.{Runs, asked_across, FedOn};
 
 use carry::{Brought, Head};
 use evict::Pushed;
 use requests::Spoken;
 use rules::Turned;
-use store::Shape;
+use store::{QueueKind, Shape};
 use wire::{Record, Reply, Stop};
 
-// What a feed answers.
+// What a feed that was not turned away answers.
 #[derive(Clone, Copy)]
 pub enum Fed {
     // So many reply bytes; the stream goes on.
     Done(usize),
     // So many reply bytes, and the offset of the unknown mark that stops the stream now.
     Stopped(usize, u64),
-    // Turned away, also because the stream had stopped before; nothing has changed.
-    Refused(Turned),
 }
 
-// Writes the reply of a pair that was pushed out.
-fn put_pushed(replies: &mut [u8], at: usize, pushed: Pushed) -> usize
+// Writes the reply of a pair that was pushed out, if one was.
+fn put_pushed(replies: &mut [u8], at: usize, pushed: Option<Pushed>) -> usize
     requires { at + length (encode_all (pushed_of pushed)) ≤ length replies.old }
     ensures { Wrote replies.old at (encode_all (pushed_of pushed)) replies.new result }
 {
     match pushed {
-        Pushed::Nothing => at,
-        Pushed::FromSmall(k, v) => wire::put_reply(replies, at, Reply::FromSmall(k, v)),
-        Pushed::FromMain(k, v) => wire::put_reply(replies, at, Reply::FromMain(k, v)),
+        None => at,
+        Some(pair) => match pair.from {
+            QueueKind::Small => {
+                wire::put_reply(replies, at, Reply::FromSmall(pair.key, pair.value))
+            }
+            QueueKind::Main => wire::put_reply(replies, at, Reply::FromMain(pair.key, pair.value)),
+        },
     }
 }
 
@@ -49,10 +51,8 @@ fn put_spoken(replies: &mut [u8], at: usize, spoken: Spoken) -> usize
     requires { at + length (encode_all (spoken_of spoken)) ≤ length replies.old }
     ensures { Wrote replies.old at (encode_all (spoken_of spoken)) replies.new result }
 {
-    let pushed = spoken.pushed;
-    let closing = spoken.closing;
-    let middle = put_pushed(replies, at, pushed);
-    wire::put_reply(replies, middle, closing)
+    let middle = put_pushed(replies, at, spoken.pushed);
+    wire::put_reply(replies, middle, spoken.closing)
 }
 
 // Carries out the requests from `at` on, in order, up to the end or to a record that is none, and writes their replies from `out` on.
@@ -71,19 +71,12 @@ pub fn run_from(
 {
     let mut from = at;
     let mut end = out;
-    loop {
-        let read = wire::next(requests, from);
-        match read {
-            Record::Ask(q, after) => {
-                let spoken = requests::apply(store, z, q);
-                end = put_spoken(replies, end, spoken);
-                from = after;
-            }
-            Record::Unknown => return end,
-            Record::Cut => return end,
-            Record::End => return end,
-        }
+    while let Record::Ask(q, after) = wire::next(requests, from) {
+        let spoken = requests::apply(store, z, q);
+        end = put_spoken(replies, end, spoken);
+        from = after;
     }
+    end
 }
 
 // Carries out the requests of what stands in front of a piece, and then those of the piece from `from` on.
@@ -96,22 +89,11 @@ fn run_both(
     replies: &mut [u8],
 ) -> usize
     requires held { Held z store.old }
-    requires has_room { HasRoom ((parse head.now).requests ++ (parse_from piece.now from).requests) replies.old 0 }
-    ensures { Runs z store.old store.new ((parse head.now).requests ++ (parse_from piece.now from).requests)
-        replies.old replies.new 0 result }
+    requires has_room { HasRoom (asked_across head.now piece.now from) replies.old 0 }
+    ensures { Runs z store.old store.new (asked_across head.now piece.now from) replies.old replies.new 0 result }
 {
     let middle = run_from(store, z, head, 0, replies, 0);
     run_from(store, z, piece, from, replies, middle)
-}
-
-// Writes the record of a stream that goes on, with what the piece has from `at` on, and answers the reply bytes.
-fn go_on(carry: &mut [u8], offset: u64, piece: &[u8], at: usize, out: usize) -> Fed
-    requires { (carry_bytes ≤ length carry.old) × (at ≤ length piece.now) × (length piece.now ≤ at + kept_room) }
-    ensures { WentOn carry.old (record { offset = offset; kept = drop at piece.now; stopped = false })
-        carry.new out result }
-{
-    carry::put(carry, offset, false, piece, at);
-    Fed::Done(out)
 }
 
 // A feed of what stands in front of a piece, a whole record or nothing, and of the piece from `from` on. The piece's first byte has the offset `base`.
@@ -124,29 +106,30 @@ fn feed_whole(
     piece: &[u8],
     from: usize,
     replies: &mut [u8],
-) -> Fed
+) -> Result<Fed, Turned>
     requires { Held z store.old × (carry_bytes ≤ length carry.old) × (from ≤ length piece.now) × (length piece.now ≤ most_request_bytes)
         × (length head.now ≤ longest_record) × (base + length piece.now ≤ last_offset) }
     ensures { FedOn z store.old store.new carry.old carry.new replies.old replies.new
-        ((parse head.now).requests ++ (parse_from piece.now from).requests)
+        (asked_across head.now piece.now from)
         (left_by base piece.now (parse_from piece.now from).end) result }
 {
     let first = wire::survey_all(head);
     let rest = wire::survey_from(piece, from);
     let room = first.room + rest.room;
     if replies.len() < room {
-        return Fed::Refused(Turned::NoRoom(room as u64));
+        return Err(Turned::NoRoom(room as u64));
     }
     let out = run_both(store, z, head, piece, from, replies);
     let end = base + rest.at as u64;
-    let stop = rest.stop;
-    match stop {
+    match rest.stop {
         Stop::Unknown => {
             carry::put(carry, end, true, piece, piece.len());
-            Fed::Stopped(out, end)
+            Ok(Fed::Stopped(out, end))
         }
-        Stop::Cut => go_on(carry, end, piece, rest.at, out),
-        Stop::Whole => go_on(carry, end, piece, rest.at, out),
+        Stop::Cut | Stop::Whole => {
+            carry::put(carry, end, false, piece, rest.at);
+            Ok(Fed::Done(out))
+        }
     }
 }
 
@@ -159,23 +142,22 @@ pub fn feed_going(
     count: usize,
     piece: &[u8],
     replies: &mut [u8],
-) -> Fed
-    requires { Held z store.old × Brings carry.old (Brought.Going offset count) × (offset + count + length piece.now ≤ last_offset)
+) -> Result<Fed, Turned>
+    requires { Held z store.old × Brings carry.old (Ok (Brought.Going offset count)) × (offset + count + length piece.now ≤ last_offset)
         × (length piece.now ≤ most_request_bytes) }
     ensures { FedOn z store.old store.new carry.old carry.new replies.old replies.new
         (parse (kept_in carry.old count ++ piece.now)).requests
         (left_by offset (kept_in carry.old count ++ piece.now) (parse (kept_in carry.old count ++ piece.now)).end) result }
 {
     let mut head = [0u8; carry::HEAD_BYTES];
-    let joined = carry::join(carry, count, piece, &mut head);
-    match joined {
+    match carry::join(carry, count, piece, &mut head) {
         Head::Cut(n) => {
             carry::put(carry, offset, false, &head[0..n], 0);
-            Fed::Done(0)
+            Ok(Fed::Done(0))
         }
         Head::Unknown => {
             carry::put(carry, offset, true, piece, piece.len());
-            Fed::Stopped(0, offset)
+            Ok(Fed::Stopped(0, offset))
         }
         Head::Whole(n) => feed_whole(
             store,

@@ -4,8 +4,8 @@ use Rattle.runs.proofs.PieceLaws.{brings_long, brings_few, brings_waits, cut-par
 use Rattle.runs.proofs.PieceLaws.{whole_part, whole-begun, going_whole}
 use Rattle.runs.proofs.feed_going.Goals as goal
 
-pub join-joined-requires : goal.join-joined-requires
-join-joined-requires c = (search brings_long, search brings_few, search brings_waits, search rules)
+pub join-requires : goal.join-requires
+join-requires c = (search brings_long, search brings_few, search brings_waits, search rules)
 
 pub slice_bounds-put-end : goal.slice_bounds-put-end
 slice_bounds-put-end c = search cut-part

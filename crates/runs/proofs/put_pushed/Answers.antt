@@ -8,14 +8,14 @@ ruleset laws = (rules, put-nothing, put_small, put-main, small_fits, main-fits)
 pub put_reply-requires : goal.put_reply-requires
 put_reply-requires c = search laws
 
-pub put_reply-requires-in-FromMain : goal.put_reply-requires-in-FromMain
-put_reply-requires-in-FromMain c = search laws
+pub put_reply-requires-in-Main : goal.put_reply-requires-in-Main
+put_reply-requires-in-Main c = search laws
 
-pub returns-in-Nothing : goal.returns-in-Nothing
-returns-in-Nothing c = search laws
+pub returns-in-None : goal.returns-in-None
+returns-in-None c = search laws
 
-pub returns-in-FromSmall : goal.returns-in-FromSmall
-returns-in-FromSmall c = search laws
+pub returns-in-Small : goal.returns-in-Small
+returns-in-Small c = search laws
 
-pub returns-in-FromMain : goal.returns-in-FromMain
-returns-in-FromMain c = search laws
+pub returns-in-Main : goal.returns-in-Main
+returns-in-Main c = search laws

@@ -1,9 +1,9 @@
 -- `runs::run_from` meets its contract.
 use borrow.Author.Rules.{rules}
-use Rattle.runs.proofs.RunLaws.{midway_start, midway_held, midway_fits, midway_less, midway_next, midway_end, midway_unknown, midway_cut}
+use Rattle.runs.proofs.RunLaws.{midway_start, midway_held, midway_fits, midway_less, midway_next, midway_over}
 use Rattle.runs.proofs.run_from.Goals as goal
 
-ruleset laws = (rules, midway_start, midway_held, midway_fits, midway_less, midway_next, midway_end, midway_unknown, midway_cut)
+ruleset laws = (rules, midway_start, midway_held, midway_fits, midway_less, midway_next, midway_over)
 
 pub loop-q-init : goal.loop-q-init
 loop-q-init c = midway_start (search rules) (search rules) (λ j. (c.type_inv.requests j).fits)
@@ -17,11 +17,5 @@ loop-q-smaller c = search laws
 pub loop-q-preserved : goal.loop-q-preserved
 loop-q-preserved c = search laws
 
-pub returns-in-Unknown : goal.returns-in-Unknown
-returns-in-Unknown c = search laws
-
-pub returns-in-Cut : goal.returns-in-Cut
-returns-in-Cut c = search laws
-
-pub returns-in-End : goal.returns-in-End
-returns-in-End c = search laws
+pub returns : goal.returns
+returns c = search laws

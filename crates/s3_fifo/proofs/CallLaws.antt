@@ -2,6 +2,7 @@
 -- Assumes nothing.
 use mathlib.Core.Path.{◌≡◌, refl, sym, ap, ◌∙◌}
 use mathlib.Core.Bool.{true}
+use mathlib.Core.Logic.{◌⊎◌, inl, inr}
 use mathlib.Core.List.{List, ◌++◌}
 use Prim.Native.Nat.{ℕ, ◌≤◌, ◌<◌}
 use native.Mathlib.Omega.{arith}
@@ -17,19 +18,16 @@ use Rattle.rules.specs.Requests.{run}
 use Rattle.rules.specs.Bytes.{End, whole, unknown_at, cut_at, parse_from, parse, room_for, encode_all}
 use Rattle.rules.specs.Refusals.{store_bytes, most_request_bytes, broken, broken_at}
 use Rattle.rules.specs.Verdict.{short, damaged, reads, call}
-use Rattle.wire.specs.declared.Stop.{Stop}
 use Rattle.wire.specs.declared.Stop.TheVariants.{Whole, Unknown, Cut}
 use Rattle.wire.specs.declared.Survey.{Survey}
 use Rattle.wire.specs.Wire.{end_at, stop_of, surveyed, splice}
 use Rattle.store.specs.Holds.{state_in, shape_for, Held}
 use Rattle.store.proofs.HoldsLaws.{held-holds, limits-shown}
-use Rattle.soundness.specs.declared.Checked.{Checked}
-use Rattle.soundness.specs.declared.Checked.TheVariants.{Sound as Sound·, Damaged}
+use Rattle.std.specs.Prelude.{Result, Ok, Err}
 use Rattle.soundness.specs.Checks.{Checks}
 use Rattle.rules.specs.declared.Turned.{Turned}
-use Rattle.rules.specs.declared.Turned.TheVariants.{ShortStore, DamagedStore, LongRequests, BadRecord, NoRoom}
+use Rattle.rules.specs.declared.Turned.TheVariants.{ShortStore, LongRequests, BadRecord, NoRoom}
 use Rattle.wire.specs.CarriedOut.{HasRoom}
-use Rattle.s3_fifo.specs.declared.Ran.TheVariants.{Done, Refused}
 use Rattle.runs.specs.Runs.{Runs}
 use Rattle.runs.proofs.PieceLaws.{all_end}
 use Rattle.s3_fifo.specs.Away.{TurnsAway}
@@ -47,8 +45,8 @@ module _ {v : Survey} (q : List ℕ) (g : v ≡ surveyed (length q) (parse q)) w
   room-is : v.room ≡ room_for (parse q).requests
   room-is = ap (λ (y : Survey). y.room) g
 
-  pub survey_whole : {t : Stop} → t ≡ v.stop → t ≡ Whole → (parse q).end ≡ whole
-  survey_whole e h = all_end (parse q).end (ap (λ (y : Survey). y.stop) (sym g) ∙ sym e ∙ h)
+  pub survey_whole : v.stop ≡ Whole → (parse q).end ≡ whole
+  survey_whole h = all_end (parse q).end (ap (λ (y : Survey). y.stop) (sym g) ∙ h)
 
   pub survey-ready : {p : List ℕ} → v.room ≤ length p → HasRoom (parse_from q 0).requests p 0
   unfolding parse
@@ -56,13 +54,15 @@ module _ {v : Survey} (q : List ℕ) (g : v ≡ surveyed (length q) (parse q)) w
 
 -- ---- the store is turned away
 
-pub called-short : {s : List ℕ} → length s < store_bytes → (q p : List ℕ) → Called s q p (Refused ShortStore) s p
+pub called-short : {s : List ℕ} → length s < store_bytes → (q p : List ℕ) → Called s q p (Err ShortStore) s p
 unfolding call
 called-short h q p = record { store = short; store_is = h; leaves = (refl, refl, refl); untouched = λ u. refl }
 
-pub called-damaged : {s : List ℕ} → store_bytes ≤ length s → {r : Checked} → Checks s r → r ≡ Damaged → (q p : List ℕ) → Called s q p (Refused DamagedStore) s p
+pub called-damaged : {s : List ℕ} → store_bytes ≤ length s → {r : Result Shape Turned} → Checks s r → {t : Turned} → r ≡ Err t → (q p : List ℕ)
+    → Called s q p (Err t) s p
 unfolding call
-called-damaged b c e q p = record { store = damaged; store_is = (b, c.damaged e); leaves = (refl, refl, refl); untouched = λ u. refl }
+called-damaged b c {t} e q p =
+    record { store = damaged; store_is = (b, c.damaged t e); leaves = rw (c.refusal t e) (refl, refl, refl); untouched = λ u. refl }
 
 -- ---- what a run from the front of the reply buffer leaves
 
@@ -85,11 +85,11 @@ module _ {z : Shape} {s s' : List ℕ} {rs : List Request} {p p' : List ℕ} {n 
 
 -- ---- a sound store
 
-pub checked-held : {s : List ℕ} {r : Checked} {z : Shape} → Checks s r → r ≡ Sound· z → Held z s
+pub checked-held : {s : List ℕ} {r : Result Shape Turned} {z : Shape} → Checks s r → r ≡ Ok z → Held z s
 checked-held {z = z} c e = c.sound z e
 
 module _ {z : Shape} {s : List ℕ} (b : store_bytes ≤ length s) (h : Held z s) (q p : List ℕ) where
-  pub called-long : most_request_bytes < length q → Called s q p (Refused LongRequests) s p
+  pub called-long : most_request_bytes < length q → Called s q p (Err LongRequests) s p
   unfolding call
   called-long l =
       record {
@@ -99,11 +99,11 @@ module _ {z : Shape} {s : List ℕ} (b : store_bytes ≤ length s) (h : Held z s
         untouched = λ u. refl;
       }
 
-  module _ (l : length q ≤ most_request_bytes) {v : Survey} (g : v ≡ surveyed (length q) (parse q)) {t : Stop} (e : t ≡ v.stop) where
-    called-bad : (t ≡ Whole → ⊥) → {i : ℕ} → i ≡ v.at → Called s q p (Refused (BadRecord i)) s p
+  module _ (l : length q ≤ most_request_bytes) {v : Survey} (g : v ≡ surveyed (length q) (parse q)) where
+    called-broken : (v.stop ≡ Whole → ⊥) → {i : ℕ} → i ≡ v.at → Called s q p (Err (BadRecord i)) s p
     unfolding call
-    called-bad n {i} d =
-        let w = broken-end (parse q).end (length q) (λ k. n (e ∙ ap (λ (y : Survey). y.stop) g ∙ k)) in
+    called-broken n {i} d =
+        let w = broken-end (parse q).end (length q) (λ k. n (ap (λ (y : Survey). y.stop) g ∙ k)) in
         let o : broken_at (parse q).end ≡ i = w.1 ∙ sym (d ∙ ap (λ (y : Survey). y.at) g) in
         record {
           store = reads (state_in z s);
@@ -112,17 +112,15 @@ module _ {z : Shape} {s : List ℕ} (b : store_bytes ≤ length s) (h : Held z s
           untouched = λ u. refl;
         }
 
-    pub called-unknown : t ≡ Unknown → {i : ℕ} → i ≡ v.at → Called s q p (Refused (BadRecord i)) s p
-    called-unknown w d = called-bad (λ k. let y : Unknown ≡ Whole = sym w ∙ k in let n : ◌≡◌ {A = ℕ} 0 1 = cc in omega arith) d
+    pub called-bad : (v.stop ≡ Unknown) ⊎ (v.stop ≡ Cut) → {i : ℕ} → i ≡ v.at → Called s q p (Err (BadRecord i)) s p
+    called-bad (inl w) d = called-broken (λ k. let y : Unknown ≡ Whole = sym w ∙ k in let n : ◌≡◌ {A = ℕ} 0 1 = cc in omega arith) d
+    called-bad (inr w) d = called-broken (λ k. let y : Cut ≡ Whole = sym w ∙ k in let n : ◌≡◌ {A = ℕ} 0 1 = cc in omega arith) d
 
-    pub called-cut : t ≡ Cut → {i : ℕ} → i ≡ v.at → Called s q p (Refused (BadRecord i)) s p
-    called-cut w d = called-bad (λ k. let y : Cut ≡ Whole = sym w ∙ k in let n : ◌≡◌ {A = ℕ} 0 1 = cc in omega arith) d
-
-    module _ (all : t ≡ Whole) where
-      pub called-room : length p < v.room → {i : ℕ} → i ≡ v.room → Called s q p (Refused (NoRoom i)) s p
+    module _ (all : v.stop ≡ Whole) where
+      pub called-room : length p < v.room → {i : ℕ} → i ≡ v.room → Called s q p (Err (NoRoom i)) s p
       unfolding call
       called-room k {i} d =
-          let w = survey_whole q g e all in
+          let w = survey_whole q g all in
           let o : room_for (parse q).requests ≡ i = sym (d ∙ room-is q g) in
           record {
             store = reads (state_in z s);
@@ -131,10 +129,10 @@ module _ {z : Shape} {s : List ℕ} (b : store_bytes ≤ length s) (h : Held z s
             untouched = λ u. refl;
           }
 
-      pub called-ran : v.room ≤ length p → {s' p' : List ℕ} {n : ℕ} → Runs z s s' (parse_from q 0).requests p p' 0 n → Called s q p (Done n) s' p'
+      pub called-ran : v.room ≤ length p → {s' p' : List ℕ} {n : ℕ} → Runs z s s' (parse_from q 0).requests p p' 0 n → Called s q p (Ok n) s' p'
       unfolding call parse
       called-ran k {s'} {p'} {n} x =
-          let w = survey_whole q g e all in
+          let w = survey_whole q g all in
           let y = runs-written x in
           record {
             store = reads (state_in z s);
@@ -147,12 +145,12 @@ module _ {z : Shape} {s : List ℕ} (b : store_bytes ≤ length s) (h : Held z s
 
 -- ---- requests that are too long
 
-module _ {s q : List ℕ} (b : store_bytes ≤ length s) {r : Checked} (c : Checks s r) where
-  pub long-damaged : r ≡ Damaged → TurnsAway s q DamagedStore
+module _ {s q : List ℕ} (b : store_bytes ≤ length s) {r : Result Shape Turned} (c : Checks s r) where
+  pub long-damaged : {t : Turned} → r ≡ Err t → TurnsAway s q t
   long-damaged e = record { called = called-damaged b c e q }
 
-  pub long-sound : {z : Shape} → r ≡ Sound· z → most_request_bytes < length q → TurnsAway s q LongRequests
+  pub long-sound : {z : Shape} → r ≡ Ok z → most_request_bytes < length q → TurnsAway s q LongRequests
   long-sound e l = record { called = λ p. called-long b (checked-held c e) q p l }
 
-pub turned-away : {s q : List ℕ} {t : Turned} → TurnsAway s q t → (p : List ℕ) → Called s q p (Refused t) s p
+pub turned-away : {s q : List ℕ} {t : Turned} → TurnsAway s q t → (p : List ℕ) → Called s q p (Err t) s p
 turned-away t = t.called

@@ -36,8 +36,7 @@ use Rattle.rules.proofs.RepliesLaws.{reading-once, history-read}
 use Rattle.sizing.specs.declared.Settings.{Settings}
 use Rattle.sizing.proofs.AcceptedLaws.{accepted-fine, accepted-limits}
 use Rattle.store.specs.Holds.{Holds}
-use Rattle.s3_fifo.specs.declared.Creation.TheVariants.{Made}
-use Rattle.s3_fifo.specs.declared.Ran.TheVariants.{Done}
+use Rattle.std.specs.Prelude.{Result, Ok}
 use Rattle.runs.specs.declared.Fed.{Fed}
 use Rattle.s3_fifo.specs.Feeds.{fed_says, replies_in, carried_out, FollowsFeed, FedAs}
 use Rattle.s3_fifo.specs.Streams.{NotTurned}
@@ -89,7 +88,7 @@ begin (limits L) s s' {M} f h = subst (λ (K : Limits). Begun K s') (f L refl).1
     pick true e g = absurd (gave_not g.0)
     pick false e g = record { fine = (f L refl).0; holds = g.1.holds; long = omega (arith, ltb-false (length s) store_bytes e, g.1.same_length) }
 
-pub begun : {settings : Settings} {s s' : List ℕ} → Created settings s Made s' → Begun (limits_made settings) s'
+pub begun : {settings : Settings} {s s' : List ℕ} → Created settings s (Ok tt) s' → Begun (limits_made settings) s'
 unfolding create
 begun {settings} {s} {s'} c =
     let z = settings.capacity in
@@ -104,7 +103,7 @@ pub record Served (σ : State) (q s' p' : List ℕ) (n : ℕ) : Type 0 where
   pub holds : Holds s' (run σ (parse q).requests).state
   pub told : take n p' ≡ encode_all (run σ (parse q).requests).replies
 
-pub served : {s q p s' p' : List ℕ} {n : ℕ} {σ : State} → Holds s σ → store_bytes ≤ length s → Called s q p (Done n) s' p'
+pub served : {s q p s' p' : List ℕ} {n : ℕ} {σ : State} → Holds s σ → store_bytes ≤ length s → Called s q p (Ok n) s' p'
     → Served σ q s' p' n × (store_bytes ≤ length s')
 unfolding call
 served {s} {q} {p} {s'} {p'} {n} {σ} h b c =
@@ -132,7 +131,7 @@ not-broken whole h = refl
 not-broken (unknown_at i) h = let z : ◌≡◌ {A = ℕ} 0 1 = cc in absurd (omega arith)
 not-broken (cut_at i) h = let z : ◌≡◌ {A = ℕ} 0 1 = cc in absurd (omega arith)
 
-whole-on : (s q p s' p' : List ℕ) (n : ℕ) (x : Reads) → ReadsAs s x → Follows (call x q (length p)) (gave n) s s' p p' → Called s q p (Done n) s' p'
+whole-on : (s q p s' p' : List ℕ) (n : ℕ) (x : Reads) → ReadsAs s x → Follows (call x q (length p)) (gave n) s s' p p' → Called s q p (Ok n) s' p'
     → AllServed s q s' p' n
 unfolding call
 whole-on s q p s' p' n short h l c = absurd (gave_not l.0)
@@ -149,12 +148,12 @@ whole-on s q p s' p' n (reads σ) h l c =
       ended = not-broken (parse q).end a.1.0;
     }
 
-pub whole-served : {s q p s' p' : List ℕ} {n : ℕ} → Called s q p (Done n) s' p' → AllServed s q s' p' n
+pub whole-served : {s q p s' p' : List ℕ} {n : ℕ} → Called s q p (Ok n) s' p' → AllServed s q s' p' n
 whole-served {s} {q} {p} {s'} {p'} {n} c = whole-on s q p s' p' n c.store c.store_is c.leaves c
 
 -- ---- what an accepted call leaves never counts as damaged
 
-pub created_intact : {settings : Settings} {s s' : List ℕ} → Created settings s Made s' → ReadsAs s' damaged → ⊥
+pub created_intact : {settings : Settings} {s s' : List ℕ} → Created settings s (Ok tt) s' → ReadsAs s' damaged → ⊥
 created_intact {settings} c d = d.1 (empty_at (limits_made settings)) (begun c).holds
 
 intact : (s q p s' p' : List ℕ) (n : ℕ) (x : Reads) → (AllPeeks (parse q).requests → s' ≡ s) → ReadsAs s x → Follows (call x q (length p)) (gave n) s s' p p'
@@ -163,10 +162,10 @@ unfolding call
 intact s q p s' p' n short u h l d = absurd (gave_not l.0)
 intact s q p s' p' n damaged u h l d = absurd (gave_not l.0)
 intact s q p s' p' n (reads σ) u h l d =
-    let c : Called s q p (Done n) s' p' = record { store = reads σ; store_is = h; leaves = l; untouched = u } in
+    let c : Called s q p (Ok n) s' p' = record { store = reads σ; store_is = h; leaves = l; untouched = u } in
     d.1 (run σ (parse q).requests).state (served h.1 h.0 c).0.holds
 
-pub called_intact : {s q p s' p' : List ℕ} {n : ℕ} → Called s q p (Done n) s' p' → ReadsAs s' damaged → ⊥
+pub called_intact : {s q p s' p' : List ℕ} {n : ℕ} → Called s q p (Ok n) s' p' → ReadsAs s' damaged → ⊥
 called_intact {s} {q} {p} {s'} {p'} {n} c d = intact s q p s' p' n c.store c.untouched c.store_is c.leaves d
 
 -- ---- the chain
@@ -188,7 +187,7 @@ grow {s} {s'} {σ₀} {rs} {bs} more {new} g z h t b =
       long = b;
     }
 
-grow-called : {s q p s' p' : List ℕ} {n : ℕ} {σ₀ : State} {rs : List Request} {bs : List ℕ} → Grown s σ₀ rs bs → Bytes q → Called s q p (Done n) s' p'
+grow-called : {s q p s' p' : List ℕ} {n : ℕ} {σ₀ : State} {rs : List Request} {bs : List ℕ} → Grown s σ₀ rs bs → Bytes q → Called s q p (Ok n) s' p'
     → Grown s' σ₀ (rs ++ (parse q).requests) (bs ++ take n p')
 grow-called {q = q} g b c = let v = served g.holds g.long c in grow (parse q).requests g (parse-sized q b) v.0.holds v.0.told v.1
 
@@ -201,8 +200,8 @@ fed-narrow {c} q k x b d = go k.stopped
     go true = tt
     go false = parse-sized (k.kept ++ q) (bytes-append k.kept q (kept-bytes x b) d)
 
-module _ {s c q p s' c' p' : List ℕ} {r : Fed} (f : FedAs s c q p r s' c' p') {σ₀ : State} {rs : List Request} {bs : List ℕ} (g : Grown s σ₀ rs bs)
-    (b : Bytes c) (d : Bytes q) where
+module _ {s c q p s' c' p' : List ℕ} {r : Result Fed Turned} (f : FedAs s c q p r s' c' p') {σ₀ : State} {rs : List Request} {bs : List ℕ}
+    (g : Grown s σ₀ rs bs) (b : Bytes c) (d : Bytes q) where
   -- the requests that it completed
   grow-fed : NotTurned (fed_says r) → Grown s' σ₀ (rs ++ completed_of f.carry q) (bs ++ take (replies_in (fed_says r)) p')
   grow-fed t =
@@ -230,8 +229,9 @@ unfed_same : (v : Verdict Onward) (n d : ℕ) (a : Said) (s s' c c' p p' : List 
 unfed_same (turned_away_by m e) n d a s s' c c' p p' h r = h.1
 unfed_same (done w bs) n d a s s' c c' p p' h r = absurd (goes-not w.carry (length bs) (sym h.0 ∙ r))
 
-grow-either : {s c q p s' c' p' : List ℕ} (r : Fed) (f : FedAs s c q p r s' c' p') {σ₀ : State} {rs : List Request} {bs : List ℕ} → Grown s σ₀ rs bs → Bytes c
-    → Bytes q → (a : Said) → fed_says r ≡ a → Grown s' σ₀ (rs ++ carried_out a (completed_of f.carry q)) (bs ++ take (replies_in a) p')
+grow-either : {s c q p s' c' p' : List ℕ} (r : Result Fed Turned) (f : FedAs s c q p r s' c' p') {σ₀ : State} {rs : List Request} {bs : List ℕ}
+    → Grown s σ₀ rs bs → Bytes c → Bytes q → (a : Said) → fed_says r ≡ a
+    → Grown s' σ₀ (rs ++ carried_out a (completed_of f.carry q)) (bs ++ take (replies_in a) p')
 grow-either {q = q} {s' = s'} {p' = p'} r f {σ₀} {rs} {bs} g b d (gave n) e =
     subst (λ (a : Said). Grown s' σ₀ (rs ++ completed_of f.carry q) (bs ++ take (replies_in a) p')) e (grow-fed f g b d (subst NotTurned (sym e) tt))
 grow-either {q = q} {s' = s'} {p' = p'} r f {σ₀} {rs} {bs} g b d (halted n i) e =

@@ -17,15 +17,11 @@ use Rattle.rules.proofs.CarriedLaws.{carried-once}
 use Rattle.rules.proofs.RefusalsLaws.{turned_away_by, turned-back}
 use Rattle.store.specs.Holds.{shape_for, Holds}
 use Rattle.store.proofs.HoldsLaws.{holds-once}
-use Rattle.s3_fifo.specs.declared.Creation.{Creation}
-use Rattle.s3_fifo.specs.declared.Creation.TheVariants.{Made, Refused as NotMade}
-use Rattle.s3_fifo.specs.declared.Ran.{Ran}
-use Rattle.s3_fifo.specs.declared.Ran.TheVariants.{Done, Refused}
+use Rattle.std.specs.Prelude.{Result, Ok, Err}
+use Rattle.rules.specs.declared.Turned.{Turned}
 use Rattle.runs.specs.declared.Fed.{Fed}
-use Rattle.runs.specs.declared.Fed.TheVariants.{Done as Given, Stopped, Refused as Away}
-use Rattle.s3_fifo.specs.declared.Finish.{Finish}
-use Rattle.s3_fifo.specs.declared.Finish.TheVariants.{Complete, Refused as Broken}
-use Rattle.s3_fifo.specs.Feeds.{fed_says, finish_says, said_with, FollowsFeed, FedAs, verdict_says, FinishAs}
+use Rattle.runs.specs.declared.Fed.TheVariants.{Done, Stopped}
+use Rattle.s3_fifo.specs.Feeds.{fed_says, said_with, FollowsFeed, FedAs, verdict_says, FinishAs}
 use Rattle.s3_fifo.specs.Calls.{Said, gave, halted, turned, created_says, ran_says, ReadsAs, Settled, Follows, Created, Called}
 use Rattle.s3_fifo.specs.Once.{SameState, Agrees, OneCreation, OneCall, OneFeed}
 
@@ -34,29 +30,26 @@ use Rattle.s3_fifo.specs.Once.{SameState, Agrees, OneCreation, OneCall, OneFeed}
 pub gave_not : {n m d : ℕ} → gave n ≡ turned m d → ⊥
 gave_not e = let z : ◌≡◌ {A = ℕ} 0 1 = cc in omega arith
 
-abbrev ran_by : Said → Ran
-ran_by (gave n) = Done n
-ran_by (halted n d) = Done n
-ran_by (turned n d) = Refused (turned_away_by n d)
+-- with what an answer of so many reply bytes has
+module _ {A : Type 0} (gives : ℕ → A) where
+  abbrev answer_by : Said → Result A Turned
+  answer_by (gave n) = Ok (gives n)
+  answer_by (halted n d) = Ok (gives n)
+  answer_by (turned n d) = Err (turned_away_by n d)
 
-ran-back : (r : Ran) → ran_by (ran_says r) ≡ r
-ran-back (Done n) = refl
-ran-back (Refused t) = ap Refused (turned-back t)
+ran-back : (r : Result ℕ Turned) → answer_by (λ n. n) (ran_says r) ≡ r
+ran-back (Ok n) = refl
+ran-back (Err t) = ap Err (turned-back t)
 
-pub ran-once : (r t : Ran) → ran_says r ≡ ran_says t → r ≡ t
-ran-once r t e = sym (ran-back r) ∙ ap ran_by e ∙ ran-back t
+pub ran-once : (r t : Result ℕ Turned) → ran_says r ≡ ran_says t → r ≡ t
+ran-once r t e = sym (ran-back r) ∙ ap (answer_by (λ n. n)) e ∙ ran-back t
 
-abbrev created_by : Said → Creation
-created_by (gave n) = Made
-created_by (halted n d) = Made
-created_by (turned n d) = NotMade (turned_away_by n d)
+created-back : (r : Result (Unit {0}) Turned) → answer_by (λ n. tt) (created_says r) ≡ r
+created-back (Ok u) = refl
+created-back (Err t) = ap Err (turned-back t)
 
-created-back : (r : Creation) → created_by (created_says r) ≡ r
-created-back Made = refl
-created-back (NotMade t) = ap NotMade (turned-back t)
-
-pub creation-once : (r t : Creation) → created_says r ≡ created_says t → r ≡ t
-creation-once r t e = sym (created-back r) ∙ ap created_by e ∙ created-back t
+pub creation-once : (r t : Result (Unit {0}) Turned) → created_says r ≡ created_says t → r ≡ t
+creation-once r t e = sym (created-back r) ∙ ap (answer_by (λ n. tt)) e ∙ created-back t
 
 -- ---- a store reads as one thing
 
@@ -110,13 +103,14 @@ follows_once (done σ bs) a b s s₁ s₂ p p₁ p₂ h g =
 
 -- ---- a creation and a call
 
-pub created_once : {settings : Settings} {s s₁ s₂ : List ℕ} (r t : Creation) → Created settings s r s₁ → Created settings s t s₂ → OneCreation r t s₁ s₂
+pub created_once : {settings : Settings} {s s₁ s₂ : List ℕ} (r t : Result (Unit {0}) Turned) → Created settings s r s₁ → Created settings s t s₂
+    → OneCreation r t s₁ s₂
 created_once {settings} {s} {s₁} {s₂} r t c d =
     let v = create settings.capacity settings.small_ratio settings.ghost_ratio (length s) in
     let l = follows_once v (created_says r) (created_says t) s s₁ s₂ [] [] [] c.leaves d.leaves in
     record { answer = creation-once r t l.0; stores = l.2 }
 
-pub called_once : {s q p s₁ s₂ p₁ p₂ : List ℕ} (r t : Ran) → Called s q p r s₁ p₁ → Called s q p t s₂ p₂ → OneCall r t s₁ s₂ p₁ p₂
+pub called_once : {s q p s₁ s₂ p₁ p₂ : List ℕ} (r t : Result ℕ Turned) → Called s q p r s₁ p₁ → Called s q p t s₂ p₂ → OneCall r t s₁ s₂ p₁ p₂
 called_once {s} {q} {p} {s₁} {s₂} {p₁} {p₂} r t c d =
     let e : c.store ≡ d.store = reads-once s c.store d.store c.store_is d.store_is in
     let f : Follows (call d.store q (length p)) (ran_says r) s s₁ p p₁ =
@@ -126,30 +120,18 @@ called_once {s} {q} {p} {s₁} {s₂} {p₁} {p₂} r t c d =
 
 -- ---- a feed and a finish
 
-abbrev fed_by : Said → Fed
-fed_by (gave n) = Given n
-fed_by (halted n d) = Stopped n d
-fed_by (turned n d) = Away (turned_away_by n d)
+abbrev fed_by : Said → Result Fed Turned
+fed_by (gave n) = Ok (Done n)
+fed_by (halted n d) = Ok (Stopped n d)
+fed_by (turned n d) = Err (turned_away_by n d)
 
-fed-back : (r : Fed) → fed_by (fed_says r) ≡ r
-fed-back (Given n) = refl
-fed-back (Stopped n d) = refl
-fed-back (Away t) = ap Away (turned-back t)
+fed-back : (r : Result Fed Turned) → fed_by (fed_says r) ≡ r
+fed-back (Ok (Done n)) = refl
+fed-back (Ok (Stopped n d)) = refl
+fed-back (Err t) = ap Err (turned-back t)
 
-pub fed-says-once : (r t : Fed) → fed_says r ≡ fed_says t → r ≡ t
+pub fed-says-once : (r t : Result Fed Turned) → fed_says r ≡ fed_says t → r ≡ t
 fed-says-once r t e = sym (fed-back r) ∙ ap fed_by e ∙ fed-back t
-
-abbrev finish_by : Said → Finish
-finish_by (gave n) = Complete
-finish_by (halted n d) = Complete
-finish_by (turned n d) = Broken (turned_away_by n d)
-
-finish-back : (r : Finish) → finish_by (finish_says r) ≡ r
-finish-back Complete = refl
-finish-back (Broken t) = ap Broken (turned-back t)
-
-pub finish-says-once : (r t : Finish) → finish_says r ≡ finish_says t → r ≡ t
-finish-says-once r t e = sym (finish-back r) ∙ ap finish_by e ∙ finish-back t
 
 said-kind : (c : Carry) (n : ℕ) → Kind (said_with c n)
 said-kind c n = go c.stopped
@@ -175,7 +157,7 @@ follows_feed-once (done w bs) a b s s₁ s₂ c c₁ c₂ p p₁ p₂ h g =
     )
 
 -- the verdict on a feed of that store and that record
-pub fed-on : {s c q p s' c' p' : List ℕ} {r : Fed} (x : Reads) (k : Carried) → ReadsAs s x → ReadsCarry c k → FedAs s c q p r s' c' p'
+pub fed-on : {s c q p s' c' p' : List ℕ} {r : Result Fed Turned} (x : Reads) (k : Carried) → ReadsAs s x → ReadsCarry c k → FedAs s c q p r s' c' p'
     → FollowsFeed (feed x k q (length p)) (fed_says r) s s' c c' p p'
 fed-on {s} {c} {q} {p} {s'} {c'} {p'} {r} x k h g f =
     let d : f.store ≡ x = reads-once s f.store x f.store_is h in
@@ -183,13 +165,14 @@ fed-on {s} {c} {q} {p} {s'} {c'} {p'} {r} x k h g f =
     subst (λ (y : Reads). FollowsFeed (feed y k q (length p)) (fed_says r) s s' c c' p p') d
     (subst (λ (l : Carried). FollowsFeed (feed f.store l q (length p)) (fed_says r) s s' c c' p p') e f.leaves)
 
-pub fed_once : {s c q p s₁ s₂ c₁ c₂ p₁ p₂ : List ℕ} (r t : Fed) → FedAs s c q p r s₁ c₁ p₁ → FedAs s c q p t s₂ c₂ p₂ → OneFeed r t s₁ s₂ c₁ c₂ p₁ p₂
+pub fed_once : {s c q p s₁ s₂ c₁ c₂ p₁ p₂ : List ℕ} (r t : Result Fed Turned) → FedAs s c q p r s₁ c₁ p₁ → FedAs s c q p t s₂ c₂ p₂
+    → OneFeed r t s₁ s₂ c₁ c₂ p₁ p₂
 fed_once {s} {c} {q} {p} {s₁} {s₂} {c₁} {c₂} {p₁} {p₂} r t f g =
     let v = feed g.store g.carry q (length p) in
     let l = follows_feed-once v (fed_says r) (fed_says t) s s₁ s₂ c c₁ c₂ p p₁ p₂ (fed-on g.store g.carry g.store_is g.carry_is f) g.leaves in
     record { answer = fed-says-once r t l.0; carries = l.1; replies = l.2; stores = l.3 }
 
-pub finished_once : {c : List ℕ} (r t : Finish) → FinishAs c r → FinishAs c t → r ≡ t
+pub finished_once : {c : List ℕ} (r t : Result (Unit {0}) Turned) → FinishAs c r → FinishAs c t → r ≡ t
 finished_once {c} r t f g =
-    finish-says-once r t
+    creation-once r t
     (f.says ∙ ap (λ (k : Carried). verdict_says (finish_on k)) (carried-once c f.carry g.carry f.carry_is g.carry_is) ∙ sym g.says)

@@ -17,13 +17,12 @@ use Rattle.rules.proofs.CarriedLaws.{carried-once, carry-surplus}
 use Rattle.rules.proofs.ReachLaws.{finish-is}
 use Rattle.rules.proofs.StreamLaws.{feed-all, any_cutting}
 use Rattle.store.specs.Holds.{Holds}
-use Rattle.s3_fifo.specs.declared.Ran.TheVariants.{Done}
-use Rattle.s3_fifo.specs.declared.Finish.{Finish}
-use Rattle.s3_fifo.specs.declared.Finish.TheVariants.{Complete}
+use Rattle.std.specs.Prelude.{Result, Ok}
+use Rattle.rules.specs.declared.Turned.{Turned}
 use Rattle.s3_fifo.specs.Calls.{ReadsAs, Called}
 use Rattle.s3_fifo.specs.Feeds.{finish_says, verdict_says, FinishAs}
 use Rattle.s3_fifo.specs.Streams.{Stream, over, feeds, OneStream, AsOneCall}
-use Rattle.s3_fifo.proofs.OnceLaws.{alike_self, alike-holds, finish-says-once}
+use Rattle.s3_fifo.proofs.OnceLaws.{alike_self, alike-holds, creation-once}
 use Rattle.s3_fifo.proofs.WentLaws.{goes_on, goes-lent}
 use Rattle.s3_fifo.proofs.ChainLaws.{whole-served}
 
@@ -99,20 +98,20 @@ cut_anywhere [] (q ∷ qs) a b e = let y = set-off b in any_cutting_on y.holds y
 
 -- a finish says how the whole stream ended
 says_on : {s c bs s' c' : List ℕ} (ps : List (List ℕ)) {σ : State} → Holds s σ → store_bytes ≤ length s → CarryAs c opening → Stream s c ps bs s' c'
-    → (r : Finish) → FinishAs c' r → finish_says r ≡ verdict_says (ended (parse (glued ps)).end)
+    → (r : Result (Unit {0}) Turned) → FinishAs c' r → finish_says r ≡ verdict_says (ended (parse (glued ps)).end)
 says_on {c' = c'} ps {σ} h b x t r f =
     let k : Carry = (feed_on σ opening (glued ps)).carry in
     let y : CarryAs c' k = subst (λ (w : Flow). CarryAs c' w.carry) (feed-all σ opening x.could ps) (stream_gives h b x t).next in
     f.says ∙ ap (λ (d : Carried). verdict_says (finish_on d)) (carried-once c' f.carry (carries k) f.carry_is y) ∙ ap verdict_says (finish-is σ (glued ps))
 
-pub finish-says : {s c bs s' c' : List ℕ} (ps : List (List ℕ)) → CarryAs c opening → Stream s c ps bs s' c' → (r : Finish) → FinishAs c' r
+pub finish-says : {s c bs s' c' : List ℕ} (ps : List (List ℕ)) → CarryAs c opening → Stream s c ps bs s' c' → (r : Result (Unit {0}) Turned) → FinishAs c' r
     → finish_says r ≡ verdict_says (ended (parse (glued ps)).end)
 unfolding parse parse_from walk
 finish-says {c = c} [] x over r f = f.says ∙ ap (λ (d : Carried). verdict_says (finish_on d)) (carried-once c f.carry (carries opening) f.carry_is x)
 finish-says (p ∷ ps) x t r f = let y = set-off t in says_on (p ∷ ps) y.holds y.long x t r f
 
 pub as_one_call : {s c bs s' c' p s₁ p₁ : List ℕ} {n : ℕ} (ps : List (List ℕ)) → CarryAs c opening → Stream s c ps bs s' c'
-    → Called s (glued ps) p (Done n) s₁ p₁ → AsOneCall bs s' c' n s₁ p₁
+    → Called s (glued ps) p (Ok n) s₁ p₁ → AsOneCall bs s' c' n s₁ p₁
 unfolding feed_on
 as_one_call {s} {c} {bs} {s'} {c'} {p} {s₁} {p₁} {n} ps x t d =
     let y = whole-served d in
@@ -122,6 +121,6 @@ as_one_call {s} {c} {bs} {s'} {c'} {p} {s₁} {p₁} {n} ps x t d =
     record {
       replies = g.replies ∙ sym y.served.told;
       stores = alike-holds y.served.holds g.holds (y.same_length ∙ sym g.same_length);
-      complete = λ r f. finish-says-once r Complete
+      complete = λ r f. creation-once r (Ok tt)
           (says_on ps y.held y.long x t r f ∙ ap (λ (e : End). verdict_says (ended e)) y.ended);
     }

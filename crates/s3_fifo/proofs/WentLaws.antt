@@ -19,6 +19,7 @@ use Rattle.rules.specs.Feed.{Flow, still, on_carry, feed_on, completed, runs_ove
 use Rattle.rules.proofs.ReachLaws.{feed-could}
 use Rattle.rules.proofs.CarriedLaws.{carry-written}
 use Rattle.store.specs.Holds.{Holds}
+use Rattle.std.specs.Prelude.{Result}
 use Rattle.runs.specs.declared.Fed.{Fed}
 use Rattle.s3_fifo.specs.Calls.{Said, gave, halted, turned, ReadsAs}
 use Rattle.s3_fifo.specs.Feeds.{fed_says, replies_in, said_with, FollowsFeed, FedAs}
@@ -99,8 +100,8 @@ pub record Onwards (s c : List ℕ) (σ : State) (k : Carry) (q : List ℕ) (n :
   pub went : Went s c (feed_on σ k q) n s' c' p'
   pub next : CarryAs c' (feed_on σ k q).carry
 
-pub goes_on : {s c q p s' c' p' : List ℕ} (r : Fed) {σ : State} {k : Carry} → Holds s σ → store_bytes ≤ length s → CarryAs c k → FedAs s c q p r s' c' p'
-    → NotTurned (fed_says r) → Onwards s c σ k q (replies_in (fed_says r)) s' c' p'
+pub goes_on : {s c q p s' c' p' : List ℕ} (r : Result Fed Turned) {σ : State} {k : Carry} → Holds s σ → store_bytes ≤ length s → CarryAs c k
+    → FedAs s c q p r s' c' p' → NotTurned (fed_says r) → Onwards s c σ k q (replies_in (fed_says r)) s' c' p'
 goes_on {s} {c} {q} {p} {s'} {c'} {p'} r {σ} {k} h b x f g =
     let w = went_on s c q p s' c' p' (fed_says r) σ k g h x (fed-on (reads σ) (carries k) (b, h) x f) in
     record { went = w.1; next = next-carry s c q p s' c' p' (fed_says r) σ k g h x w.0 w.1 }
@@ -124,20 +125,20 @@ lent s c q p s' c' p' a g damaged y l = absurd (away DamagedStore a (λ e. omega
 lent s c q p s' c' p' a g (reads σ) unfit l = absurd (away BadCarry a (λ e. omega arith) g l.0)
 lent s c q p s' c' p' a g (reads σ) (carries k) l = record { state = σ; carry = k; store_is = refl; carry_is = refl }
 
-pub goes-lent : {s c q p s' c' p' : List ℕ} (r : Fed) (f : FedAs s c q p r s' c' p') → NotTurned (fed_says r) → Lent f.store f.carry
+pub goes-lent : {s c q p s' c' p' : List ℕ} (r : Result Fed Turned) (f : FedAs s c q p r s' c' p') → NotTurned (fed_says r) → Lent f.store f.carry
 goes-lent {s} {c} {q} {p} {s'} {c'} {p'} r f g = lent s c q p s' c' p' (fed_says r) g f.store f.carry f.leaves
 
 -- ---- what it left is sound, and its record is none that is refused
 
-after : {s c q p s' c' p' : List ℕ} (r : Fed) (f : FedAs s c q p r s' c' p') (g : NotTurned (fed_says r)) → let l = goes-lent r f g in
+after : {s c q p s' c' p' : List ℕ} (r : Result Fed Turned) (f : FedAs s c q p r s' c' p') (g : NotTurned (fed_says r)) → let l = goes-lent r f g in
     Onwards s c l.state l.carry q (replies_in (fed_says r)) s' c' p'
 after {s} {c} r f g =
     let l = goes-lent r f g in
     let y : ReadsAs s (reads l.state) = subst (ReadsAs s) l.store_is f.store_is in
     goes_on r y.1 y.0 (subst (ReadsCarry c) l.carry_is f.carry_is) f g
 
-pub fed_intact : {s c q p s' c' p' : List ℕ} (r : Fed) → FedAs s c q p r s' c' p' → NotTurned (fed_says r) → ReadsAs s' damaged → ⊥
+pub fed_intact : {s c q p s' c' p' : List ℕ} (r : Result Fed Turned) → FedAs s c q p r s' c' p' → NotTurned (fed_says r) → ReadsAs s' damaged → ⊥
 fed_intact {q = q} r f g d = let l = goes-lent r f g in d.1 (feed_on l.state l.carry q).state (after r f g).went.holds
 
-pub fed_fit : {s c q p s' c' p' : List ℕ} (r : Fed) → FedAs s c q p r s' c' p' → NotTurned (fed_says r) → ReadsCarry c' unfit → ⊥
+pub fed_fit : {s c q p s' c' p' : List ℕ} (r : Result Fed Turned) → FedAs s c q p r s' c' p' → NotTurned (fed_says r) → ReadsCarry c' unfit → ⊥
 fed_fit {q = q} r f g d = let l = goes-lent r f g in d (feed_on l.state l.carry q).carry (after r f g).next

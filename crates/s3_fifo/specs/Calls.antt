@@ -1,7 +1,8 @@
 -- The statements of the public calls: what a store reads as, and what a verdict of the rules leaves in the answer, the store and the reply buffer.
 -- Assumes nothing.
-use Rattle.std.specs.Prelude.{◌≡◌, List, [], ◌++◌, ℕ, ◌≤◌, ◌<◌, length, drop}
+use Rattle.std.specs.Prelude.{◌≡◌, List, [], ◌++◌, ℕ, ◌≤◌, ◌<◌, length, drop, Result, Ok, Err}
 use Rattle.nodes.specs.Nodes.{used}
+use Rattle.rules.specs.declared.Turned.{Turned}
 use Rattle.rules.specs.State.{State}
 use Rattle.rules.specs.Records.{AllPeeks}
 use Rattle.rules.specs.Bytes.{parse}
@@ -9,10 +10,6 @@ use Rattle.rules.specs.Refusals.{number_of, detail_of, store_bytes}
 use Rattle.rules.specs.Verdict.{Verdict, refused, done, create, Reads, short, damaged, reads, call}
 use Rattle.sizing.specs.declared.Settings.{Settings}
 use Rattle.store.specs.Holds.{shape_for, Holds}
-use Rattle.s3_fifo.specs.declared.Creation.{Creation}
-use Rattle.s3_fifo.specs.declared.Creation.TheVariants.{Made, Refused as NotMade}
-use Rattle.s3_fifo.specs.declared.Ran.{Ran}
-use Rattle.s3_fifo.specs.declared.Ran.TheVariants.{Done, Refused}
 
 -- an answer in the rules' terms (RULES 7, RULES 8): so many reply bytes; so many, and the stream stops at a mark with that offset; or turned away by a number,
 -- with a detail
@@ -20,13 +17,13 @@ pub data Said : Type 0 where
   gave : ℕ → Said
   halted turned : ℕ → ℕ → Said
 
-abbrev pub created_says : Creation → Said
-created_says Made = gave 0
-created_says (NotMade t) = turned (number_of t) (detail_of t)
+abbrev pub created_says : Result (Unit {0}) Turned → Said
+created_says (Ok u) = gave 0
+created_says (Err t) = turned (number_of t) (detail_of t)
 
-abbrev pub ran_says : Ran → Said
-ran_says (Done n) = gave n
-ran_says (Refused t) = turned (number_of t) (detail_of t)
+abbrev pub ran_says : Result ℕ Turned → Said
+ran_says (Ok n) = gave n
+ran_says (Err t) = turned (number_of t) (detail_of t)
 
 -- what the bytes of a store read as: too short, no sound state, or the state that they hold
 abbrev pub ReadsAs : List ℕ → Reads → Type 0
@@ -46,12 +43,12 @@ Follows (refused n d) a s s' p p' = (a ≡ turned n d) × (s' ≡ s) × (p' ≡ 
 Follows (done σ bs) a s s' p p' = (a ≡ gave (length bs)) × Settled s s' σ × (p' ≡ bs ++ drop (length bs) p)
 
 -- creation: settings and the store before; the answer and the store after
-pub record Created (settings : Settings) (s : List ℕ) (r : Creation) (s' : List ℕ) : Type 0 where
+pub record Created (settings : Settings) (s : List ℕ) (r : Result (Unit {0}) Turned) (s' : List ℕ) : Type 0 where
   pub leaves : Follows (create settings.capacity settings.small_ratio settings.ghost_ratio (length s)) (created_says r) s s' [] []
 
 -- a call: store, requests and replies before; the answer, the store and the replies after; a call of peeks alone, or of no request, changes no byte of the
 -- store
-pub record Called (s q p : List ℕ) (r : Ran) (s' p' : List ℕ) : Type 0 where
+pub record Called (s q p : List ℕ) (r : Result ℕ Turned) (s' p' : List ℕ) : Type 0 where
   pub store : Reads
   pub store_is : ReadsAs s store
   pub leaves : Follows (call store q (length p)) (ran_says r) s s' p p'

@@ -1,7 +1,7 @@
 -- Calls one after the other on one store, each lent the store as the last one left it: the state that they began with, what was asked and answered since,
 -- and what is promised of all that.
 -- Assumes nothing.
-use Rattle.std.specs.Prelude.{◌≡◌, List, [], ◌++◌, ℕ, ◌≤◌, length, take}
+use Rattle.std.specs.Prelude.{◌≡◌, List, [], ◌++◌, ℕ, ◌≤◌, length, take, Result, Ok}
 use Rattle.cells.specs.Cells.{Bytes}
 use Rattle.rules.specs.State.{Limits, State, empty_at, keyed, residents, Sound}
 use Rattle.rules.specs.Records.{Request, IN, AllNarrow}
@@ -15,9 +15,7 @@ use Rattle.rules.specs.Replies.{ReadAs}
 use Rattle.rules.specs.Demand3.{FullInsert, Demand3}
 use Rattle.sizing.specs.declared.Settings.{Settings}
 use Rattle.store.specs.Holds.{Holds}
-use Rattle.s3_fifo.specs.declared.Creation.TheVariants.{Made}
-use Rattle.s3_fifo.specs.declared.Ran.{Ran}
-use Rattle.s3_fifo.specs.declared.Ran.TheVariants.{Done}
+use Rattle.rules.specs.declared.Turned.{Turned}
 use Rattle.runs.specs.declared.Fed.{Fed}
 use Rattle.s3_fifo.specs.Calls.{turned, ran_says, Created, Called}
 use Rattle.s3_fifo.specs.Feeds.{fed_says, replies_in, carried_out, FedAs}
@@ -29,12 +27,12 @@ limits_made settings = limits_for settings.capacity settings.small_ratio setting
 -- the store now, the state that it held at first, the requests carried out since, by calls and by feeds of any streams, and the reply bytes to them. A finish
 -- is lent no store
 pub data Chain : List ℕ → State → List Request → List ℕ → Type 0 where
-  start : {settings : Settings} {s s' : List ℕ} → Created settings s Made s' → Chain s' (empty_at (limits_made settings)) [] []
+  start : {settings : Settings} {s s' : List ℕ} → Created settings s (Ok tt) s' → Chain s' (empty_at (limits_made settings)) [] []
   accepted : {s q p s' p' : List ℕ} {n : ℕ} {σ₀ : State} {rs : List Request} {bs : List ℕ} → Chain s σ₀ rs bs → Bytes q
-      → Called s q p (Done n) s' p' → Chain s' σ₀ (rs ++ (parse q).requests) (bs ++ take n p')
-  refused : {s q p s' p' : List ℕ} {r : Ran} {σ₀ : State} {rs : List Request} {bs : List ℕ} (n d : ℕ) → Chain s σ₀ rs bs
+      → Called s q p (Ok n) s' p' → Chain s' σ₀ (rs ++ (parse q).requests) (bs ++ take n p')
+  refused : {s q p s' p' : List ℕ} {r : Result ℕ Turned} {σ₀ : State} {rs : List Request} {bs : List ℕ} (n d : ℕ) → Chain s σ₀ rs bs
       → Called s q p r s' p' → ran_says r ≡ turned n d → Chain s' σ₀ rs bs
-  fed : {s c q p s' c' p' : List ℕ} {r : Fed} {σ₀ : State} {rs : List Request} {bs : List ℕ} → Chain s σ₀ rs bs → Bytes c → Bytes q
+  fed : {s c q p s' c' p' : List ℕ} {r : Result Fed Turned} {σ₀ : State} {rs : List Request} {bs : List ℕ} → Chain s σ₀ rs bs → Bytes c → Bytes q
       → (f : FedAs s c q p r s' c' p')
       → Chain s' σ₀ (rs ++ carried_out (fed_says r) (completed_of f.carry q)) (bs ++ take (replies_in (fed_says r)) p')
 

@@ -1,25 +1,24 @@
 -- The statements of a feed and a finish (RULES 7.3): what their verdicts leave in the answer, the store, the carried record and the reply buffer.
 -- Assumes nothing.
-use Rattle.std.specs.Prelude.{◌≡◌, cond, List, [], ◌++◌, ℕ, length, drop}
+use Rattle.std.specs.Prelude.{◌≡◌, cond, List, [], ◌++◌, ℕ, length, drop, Result, Ok, Err}
+use Rattle.rules.specs.declared.Turned.{Turned}
 use Rattle.rules.specs.Records.{Request, AllPeeks}
 use Rattle.rules.specs.Refusals.{number_of, detail_of}
 use Rattle.rules.specs.Verdict.{Verdict, refused, done, Reads}
 use Rattle.rules.specs.Carry.{Carry, carry_bytes, carry_written, Carried, ReadsCarry}
 use Rattle.rules.specs.Feed.{Onward, completed_of, feed, finish_on}
 use Rattle.runs.specs.declared.Fed.{Fed}
-use Rattle.runs.specs.declared.Fed.TheVariants.{Done, Stopped, Refused}
-use Rattle.s3_fifo.specs.declared.Finish.{Finish}
-use Rattle.s3_fifo.specs.declared.Finish.TheVariants.{Complete, Refused as Broken}
-use Rattle.s3_fifo.specs.Calls.{Said, gave, halted, turned, ReadsAs, Settled}
+use Rattle.runs.specs.declared.Fed.TheVariants.{Done, Stopped}
+use Rattle.s3_fifo.specs.Calls.{Said, gave, halted, turned, created_says, ReadsAs, Settled}
 
-abbrev pub fed_says : Fed → Said
-fed_says (Done n) = gave n
-fed_says (Stopped n at) = halted n at
-fed_says (Refused t) = turned (number_of t) (detail_of t)
+abbrev pub fed_says : Result Fed Turned → Said
+fed_says (Ok (Done n)) = gave n
+fed_says (Ok (Stopped n at)) = halted n at
+fed_says (Err t) = turned (number_of t) (detail_of t)
 
-abbrev pub finish_says : Finish → Said
-finish_says Complete = gave 0
-finish_says (Broken t) = turned (number_of t) (detail_of t)
+-- a finish says what a creation does, on a record that is complete and on one that is not
+abbrev pub finish_says : Result (Unit {0}) Turned → Said
+finish_says = created_says
 
 -- the reply bytes of an answer, and which of the requests it has carried out: a feed that is turned away carries out none
 abbrev pub replies_in : Said → ℕ
@@ -44,7 +43,7 @@ FollowsFeed (done w bs) a s s' c c' p p' =
 
 -- a feed: store, carried record, piece and replies before; the answer, the store, the record and the replies after; a feed that completes peeks alone, or no
 -- request, changes no byte of the store
-pub record FedAs (s c q p : List ℕ) (r : Fed) (s' c' p' : List ℕ) : Type 0 where
+pub record FedAs (s c q p : List ℕ) (r : Result Fed Turned) (s' c' p' : List ℕ) : Type 0 where
   pub store : Reads
   pub store_is : ReadsAs s store
   pub carry : Carried
@@ -58,7 +57,7 @@ verdict_says (refused n d) = turned n d
 verdict_says (done t bs) = gave (length bs)
 
 -- a finish: the carried record, which it only reads, and the answer
-pub record FinishAs (c : List ℕ) (r : Finish) : Type 0 where
+pub record FinishAs (c : List ℕ) (r : Result (Unit {0}) Turned) : Type 0 where
   pub carry : Carried
   pub carry_is : ReadsCarry c carry
   pub says : finish_says r ≡ verdict_says (finish_on carry)

@@ -1,12 +1,11 @@
 -- Streams: feeds one after the other, each lent the store and the carried record as the last one left them, and what is promised of all their bytes
 -- together, however they are cut (RULES 7.3).
 -- Assumes nothing.
-use Rattle.std.specs.Prelude.{◌≡◌, List, [], ◌∷◌, ◌++◌, ℕ, take}
+use Rattle.std.specs.Prelude.{◌≡◌, List, [], ◌∷◌, ◌++◌, ℕ, take, Result, Ok}
+use Rattle.rules.specs.declared.Turned.{Turned}
 use Rattle.rules.specs.declared.Turned.TheVariants.{BadRecord}
 use Rattle.rules.specs.Refusals.{number_of}
 use Rattle.runs.specs.declared.Fed.{Fed}
-use Rattle.s3_fifo.specs.declared.Finish.{Finish}
-use Rattle.s3_fifo.specs.declared.Finish.TheVariants.{Complete}
 use Rattle.s3_fifo.specs.Feeds.{fed_says, replies_in, FedAs, FinishAs}
 use Rattle.s3_fifo.specs.Calls.{Said, gave, halted, turned}
 use Rattle.s3_fifo.specs.Once.{SameState}
@@ -20,7 +19,7 @@ NotTurned (turned n d) = n ≡ number_of (BadRecord d)
 -- from the store s and the record c: the pieces, the replies joined, the store and the record after them
 pub data Stream : List ℕ → List ℕ → List (List ℕ) → List ℕ → List ℕ → List ℕ → Type 0 where
   over : {s c : List ℕ} → Stream s c [] [] s c
-  feeds : {s c q p s₁ c₁ p₁ bs s' c' : List ℕ} {ps : List (List ℕ)} {r : Fed} → FedAs s c q p r s₁ c₁ p₁ → NotTurned (fed_says r)
+  feeds : {s c q p s₁ c₁ p₁ bs s' c' : List ℕ} {ps : List (List ℕ)} {r : Result Fed Turned} → FedAs s c q p r s₁ c₁ p₁ → NotTurned (fed_says r)
       → Stream s₁ c₁ ps bs s' c' → Stream s c (q ∷ ps) (take (replies_in (fed_says r)) p₁ ++ bs) s' c'
 
 -- two streams that nobody can tell apart by what they gave and left
@@ -33,4 +32,4 @@ pub record OneStream (bs₁ bs₂ s₁ s₂ c₁ c₂ : List ℕ) : Type 0 where
 pub record AsOneCall (bs s' c' : List ℕ) (n : ℕ) (s₁ p₁ : List ℕ) : Type 0 where
   pub replies : bs ≡ take n p₁
   pub stores : SameState s₁ s'
-  pub complete : (r : Finish) → FinishAs c' r → r ≡ Complete
+  pub complete : (r : Result (Unit {0}) Turned) → FinishAs c' r → r ≡ Ok tt

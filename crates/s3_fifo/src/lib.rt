@@ -3,7 +3,7 @@
 // changed.
 #![tactic(auto)]
 
-ghost use Rattle.std.specs.Prelude.{◌≡◌, ◌≤◌, ◌<◌, length};
+ghost use Rattle.std.specs.Prelude.{◌≡◌, ◌≤◌, ◌<◌, length, Ok};
 ghost use Rattle.rules.specs.Sizing.{defaults_for};
 ghost use Rattle.rules.specs.Refusals.{store_bytes, most_request_bytes};
 ghost use Rattle.sizing.specs.Answers.{asks_of};
@@ -16,31 +16,9 @@ ghost use Rattle.s3_fifo.specs.Feeds.{FedAs, FinishAs};
 use carry::Brought;
 use rules::Turned;
 use runs::Fed;
-use sizing::{Settings, Sized};
-use soundness::Checked;
+use sizing::Settings;
 use store::Shape;
 use wire::Stop;
-
-// What a creation answers.
-#[derive(Clone, Copy)]
-pub enum Creation {
-    Made,
-    Refused(Turned),
-}
-
-// What a call answers: the number of reply bytes, or why it was turned away.
-#[derive(Clone, Copy)]
-pub enum Ran {
-    Done(usize),
-    Refused(Turned),
-}
-
-// What a finish answers.
-#[derive(Clone, Copy)]
-pub enum Finish {
-    Complete,
-    Refused(Turned),
-}
 
 // What a call whose requests are too long is turned away for: a damaged store comes first. That this is a second place to check
 // from keeps the check a function of its own in what is compiled: within the loop over the requests it would take the registers
@@ -49,30 +27,31 @@ fn refusal_of_long(store: &[u8], requests: &[u8]) -> Turned
     requires { (store_bytes ≤ length store.now) × (most_request_bytes < length requests.now) }
     ensures { TurnsAway store.now requests.now result }
 {
-    let checked = soundness::check(store);
-    match checked {
-        Checked::Damaged => Turned::DamagedStore,
-        Checked::Sound(_) => Turned::LongRequests,
+    match soundness::check(store) {
+        Err(turned) => turned,
+        Ok(_) => Turned::LongRequests,
     }
 }
 
 // A call on a store that holds a state: what its requests are turned away for, or their run.
-fn run_sound(store: &mut [u8], z: Shape, requests: &[u8], replies: &mut [u8]) -> Ran
+fn run_sound(
+    store: &mut [u8],
+    z: Shape,
+    requests: &[u8],
+    replies: &mut [u8],
+) -> Result<usize, Turned>
     requires { Held z store.old × (store_bytes ≤ length store.old) × (length requests.now ≤ most_request_bytes) }
     ensures { Called store.old requests.now replies.old result store.new replies.new }
 {
     let survey = wire::survey_all(requests);
-    let stop = survey.stop;
-    match stop {
-        Stop::Unknown => Ran::Refused(Turned::BadRecord(survey.at as u64)),
-        Stop::Cut => Ran::Refused(Turned::BadRecord(survey.at as u64)),
+    match survey.stop {
+        Stop::Unknown | Stop::Cut => Err(Turned::BadRecord(survey.at as u64)),
         Stop::Whole => {
             let room = survey.room;
             if replies.len() < room {
-                return Ran::Refused(Turned::NoRoom(room as u64));
+                return Err(Turned::NoRoom(room as u64));
             }
-            let out = runs::run_from(store, z, requests, 0, replies, 0);
-            Ran::Done(out)
+            Ok(runs::run_from(store, z, requests, 0, replies, 0))
         }
     }
 }
@@ -85,25 +64,24 @@ fn feed_sound(
     carry: &mut [u8],
     piece: &[u8],
     replies: &mut [u8],
-) -> Fed
-    requires { Held z store.old × (store_bytes ≤ length store.old) × Brings carry.old brought }
+) -> Result<Fed, Turned>
+    requires { Held z store.old × (store_bytes ≤ length store.old) × Brings carry.old (Ok brought) }
     ensures { FedAs store.old carry.old piece.now replies.old result
         store.new carry.new replies.new }
 {
     match brought {
-        Brought::Unfit => Fed::Refused(Turned::BadCarry),
         Brought::Stopped(at) => {
             if rules::MOST_REQUEST_BYTES < piece.len() {
-                return Fed::Refused(Turned::LongRequests);
+                return Err(Turned::LongRequests);
             }
-            Fed::Refused(Turned::BadRecord(at))
+            Err(Turned::BadRecord(at))
         }
         Brought::Going(offset, count) => {
             if u64::MAX - offset - (count as u64) < piece.len() as u64 {
-                return Fed::Refused(Turned::BadCarry);
+                return Err(Turned::BadCarry);
             }
             if rules::MOST_REQUEST_BYTES < piece.len() {
-                return Fed::Refused(Turned::LongRequests);
+                return Err(Turned::LongRequests);
             }
             runs::feed_going(store, z, carry, offset, count, piece, replies)
         }
@@ -142,70 +120,58 @@ impl S3FifoCache {
     }
 
     // Creates a cache in the store, whatever bytes it held before.
-    pub fn create(settings: Settings, store: &mut [u8]) -> Creation
+    pub fn create(settings: Settings, store: &mut [u8]) -> Result<(), Turned>
         ensures { Created settings store.old result store.new }
     {
-        let sized = sizing::size(settings);
-        match sized {
-            Sized::Refused(turned) => Creation::Refused(turned),
-            Sized::Accepted(limits) => {
-                if store.len() < S3FifoCache::STORE_BYTES {
-                    return Creation::Refused(Turned::ShortStore);
-                }
-                store::set_up(store, limits);
-                Creation::Made
-            }
+        let limits = sizing::size(settings)?;
+        if S3FifoCache::STORE_BYTES <= store.len() {
+            store::set_up(store, limits);
+            Ok(())
+        } else {
+            Err(Turned::ShortStore)
         }
     }
 
     // Runs requests on the cache in the store, in order, and writes their replies. Soundness is tested once a call.
-    pub fn run(store: &mut [u8], requests: &[u8], replies: &mut [u8]) -> Ran
+    pub fn run(store: &mut [u8], requests: &[u8], replies: &mut [u8]) -> Result<usize, Turned>
         ensures { Called store.old requests.now replies.old result store.new replies.new }
     {
         if store.len() < S3FifoCache::STORE_BYTES {
-            return Ran::Refused(Turned::ShortStore);
+            return Err(Turned::ShortStore);
         }
         if rules::MOST_REQUEST_BYTES < requests.len() {
-            return Ran::Refused(refusal_of_long(store, requests));
+            return Err(refusal_of_long(store, requests));
         }
-        let checked = soundness::check(store);
-        match checked {
-            Checked::Damaged => Ran::Refused(Turned::DamagedStore),
-            Checked::Sound(z) => run_sound(store, z, requests, replies),
-        }
+        let shape = soundness::check(store)?;
+        run_sound(store, shape, requests, replies)
     }
 
     // Feeds a piece of a stream of requests: carries out the records that it completes, and keeps a record that it cuts for the next feed. What is
     // carried from feed to feed stands in bytes that the caller lends, all zero for a new stream.
-    pub fn feed(store: &mut [u8], carry: &mut [u8], piece: &[u8], replies: &mut [u8]) -> Fed
+    pub fn feed(
+        store: &mut [u8],
+        carry: &mut [u8],
+        piece: &[u8],
+        replies: &mut [u8],
+    ) -> Result<Fed, Turned>
         ensures { FedAs store.old carry.old piece.now replies.old result
             store.new carry.new replies.new }
     {
         let brought = carry::read(carry);
         if store.len() < S3FifoCache::STORE_BYTES {
-            return Fed::Refused(Turned::ShortStore);
+            return Err(Turned::ShortStore);
         }
-        let checked = soundness::check(store);
-        match checked {
-            Checked::Damaged => Fed::Refused(Turned::DamagedStore),
-            Checked::Sound(z) => feed_sound(store, z, brought, carry, piece, replies),
-        }
+        let z = soundness::check(store)?;
+        feed_sound(store, z, brought?, carry, piece, replies)
     }
 
     // Whether a stream may end here: it has not stopped, and no record is cut.
-    pub fn finish(carry: &[u8]) -> Finish
+    pub fn finish(carry: &[u8]) -> Result<(), Turned>
         ensures { FinishAs carry.now result }
     {
-        let brought = carry::read(carry);
-        match brought {
-            Brought::Unfit => Finish::Refused(Turned::BadCarry),
-            Brought::Stopped(at) => Finish::Refused(Turned::BadRecord(at)),
-            Brought::Going(offset, count) => {
-                if count != 0 {
-                    return Finish::Refused(Turned::BadRecord(offset));
-                }
-                Finish::Complete
-            }
+        match carry::read(carry)? {
+            Brought::Going(_, 0) => Ok(()),
+            Brought::Going(offset, _) | Brought::Stopped(offset) => Err(Turned::BadRecord(offset)),
         }
     }
 }

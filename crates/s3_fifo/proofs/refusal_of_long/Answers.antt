@@ -5,8 +5,8 @@ use Rattle.s3_fifo.proofs.refusal_of_long.Goals as goal
 
 ruleset laws = (rules, long-damaged, long-sound)
 
-pub returns-in-Damaged : goal.returns-in-Damaged
-returns-in-Damaged c = search laws
+pub returns-in-Err : goal.returns-in-Err
+returns-in-Err c = search laws
 
-pub returns-in-Sound : goal.returns-in-Sound
-returns-in-Sound c = search laws
+pub returns-in-Ok : goal.returns-in-Ok
+returns-in-Ok c = search laws

@@ -8,8 +8,8 @@ ruleset laws = (rules, called-short, called-damaged, turned-away)
 pub returns-then-store-lt-STORE_BYTES : goal.returns-then-store-lt-STORE_BYTES
 returns-then-store-lt-STORE_BYTES c = search laws
 
-pub run_sound-requires : goal.run_sound-requires
-run_sound-requires c = (search checked-held, search rules, search rules)
+pub returns-in_err-shape : goal.returns-in_err-shape
+returns-in_err-shape c = search laws
 
-pub returns-in-Damaged : goal.returns-in-Damaged
-returns-in-Damaged c = search laws
+pub run_sound-requires : goal.run_sound-requires
+run_sound-requires c = (checked-held c.check.ensures c.in_ok-shape.was, search rules, search rules)

@@ -18,16 +18,13 @@ use Rattle.rules.specs.Refusals.{number_of, detail_of, store_bytes}
 use Rattle.rules.specs.Verdict.{done, turned_away, on_sized, create}
 use Rattle.rules.proofs.RefusalsLaws.{some_number}
 use Rattle.sizing.specs.declared.Settings.{Settings}
-use Rattle.s3_fifo.specs.declared.Creation.{Creation}
-use Rattle.s3_fifo.specs.declared.Creation.TheVariants.{Made, Refused as NotMade}
-use Rattle.s3_fifo.specs.declared.Ran.{Ran}
-use Rattle.s3_fifo.specs.declared.Ran.TheVariants.{Done, Refused}
+use Rattle.std.specs.Prelude.{Result, Ok, Err}
+use Rattle.rules.specs.declared.Turned.{Turned}
 use Rattle.rules.specs.Bytes.{parse}
 use Rattle.rules.specs.Carry.{opening, CarryAs}
 use Rattle.rules.specs.Feed.{completed_of, glued, ended}
 use Rattle.runs.specs.declared.Fed.{Fed}
-use Rattle.runs.specs.declared.Fed.TheVariants.{Done as Given, Stopped, Refused as Away}
-use Rattle.s3_fifo.specs.declared.Finish.{Finish}
+use Rattle.runs.specs.declared.Fed.TheVariants.{Done, Stopped}
 use Rattle.s3_fifo.specs.Feeds.{fed_says, finish_says, replies_in, carried_out, verdict_says}
 use Rattle.s3_fifo.specs.Streams.{NotTurned, Stream, over, feeds}
 use Rattle.s3_fifo.specs.Calls.{Said, gave, halted, turned, created_says, ran_says, Follows, Created, Called}
@@ -69,15 +66,15 @@ code-once (halted n d) b h g e k = absurd h
 code-once (turned n d) (gave m) h g e f = absurd (omega (arith, ap below e, below_minus n))
 code-once (turned n d) (turned m f) h g e k = ap₂ turned (sym (below_minus n) ∙ ap below e ∙ below_minus m) k
 
-numbered_ran : (r : Ran) → Numbered ⊥ (ran_says r)
-numbered_ran (Done n) = tt
-numbered_ran (Refused t) = some_number t
+numbered_ran : (r : Result ℕ Turned) → Numbered ⊥ (ran_says r)
+numbered_ran (Ok n) = tt
+numbered_ran (Err t) = some_number t
 
-numbered_created : (r : Creation) → Numbered ⊥ (created_says r)
-numbered_created Made = tt
-numbered_created (NotMade t) = some_number t
+numbered_created : (r : Result (Unit {0}) Turned) → Numbered ⊥ (created_says r)
+numbered_created (Ok u) = tt
+numbered_created (Err t) = some_number t
 
-called_apart : (r t : Ran) → code_of (ran_says r) ≡ code_of (ran_says t) → detail_in (ran_says r) ≡ detail_in (ran_says t) → r ≡ t
+called_apart : (r t : Result ℕ Turned) → code_of (ran_says r) ≡ code_of (ran_says t) → detail_in (ran_says r) ≡ detail_in (ran_says t) → r ≡ t
 called_apart r t e d = once.ran-once r t (code-once (ran_says r) (ran_says t) (numbered_ran r) (numbered_ran t) e d)
 
 -- ---- a creation is refused without a detail
@@ -107,13 +104,13 @@ plain_follows a (limits L) s s' h f = pick (ltb (length s) store_bytes) f
     pick true g = ap detail_in g.0
     pick false g = ap detail_in g.0
 
-plain : {g : Settings} {s s' : List ℕ} (r : Creation) → Created g s r s' → detail_in (created_says r) ≡ 0
+plain : {g : Settings} {s s' : List ℕ} (r : Result (Unit {0}) Turned) → Created g s r s' → detail_in (created_says r) ≡ 0
 unfolding create
 plain {g} {s} {s'} r c =
     plain_follows (created_says r) (sizing g.capacity g.small_ratio g.ghost_ratio) s s'
     (plain-sizing g.capacity g.small_ratio g.ghost_ratio) c.leaves
 
-created_apart : {g h : Settings} {s₁ s₂ t₁ t₂ : List ℕ} (r t : Creation) → Created g s₁ r s₂ → Created h t₁ t t₂
+created_apart : {g h : Settings} {s₁ s₂ t₁ t₂ : List ℕ} (r t : Result (Unit {0}) Turned) → Created g s₁ r s₂ → Created h t₁ t t₂
     → code_of (created_says r) ≡ code_of (created_says t) → r ≡ t
 created_apart r t c d e =
     once.creation-once r t (code-once (created_says r) (created_says t) (numbered_created r) (numbered_created t) e (plain r c ∙ sym (plain t d)))
@@ -130,7 +127,7 @@ created_once : {capacity : ℕ} {small ghost : Float} {s s₁ s₂ : List ℕ} {
 created_once c d =
     let o = once.created_once c.answer d.answer c.created d.created in
     record {
-      code = c.code_is ∙ ap (λ (r : Creation). code_of (created_says r)) o.answer ∙ sym d.code_is;
+      code = c.code_is ∙ ap (λ (r : Result (Unit {0}) Turned). code_of (created_says r)) o.answer ∙ sym d.code_is;
       detail = refl;
       replies = refl;
       refused_same = refused-bytes (created_says c.answer) (numbered_created c.answer) c.code_is o.stores;
@@ -143,8 +140,8 @@ called_once : {s q p s₁ s₂ p₁ p₂ : List ℕ} {m n : ℤ} {d e : ℕ} →
 called_once c d =
     let o = once.called_once c.answer d.answer c.called d.called in
     record {
-      code = c.code_is ∙ ap (λ (r : Ran). code_of (ran_says r)) o.answer ∙ sym d.code_is;
-      detail = c.detail_is ∙ ap (λ (r : Ran). detail_in (ran_says r)) o.answer ∙ sym d.detail_is;
+      code = c.code_is ∙ ap (λ (r : Result ℕ Turned). code_of (ran_says r)) o.answer ∙ sym d.code_is;
+      detail = c.detail_is ∙ ap (λ (r : Result ℕ Turned). detail_in (ran_says r)) o.answer ∙ sym d.detail_is;
       replies = o.replies;
       refused_same = refused-bytes (ran_says c.answer) (numbered_ran c.answer) c.code_is o.stores;
       said = ran_says c.answer;
@@ -155,29 +152,29 @@ called_once c d =
 -- ---- what was accepted, and what was not
 
 made : {capacity : ℕ} {small ghost : Float} {s s' : List ℕ} → CreatedAs capacity small ghost s (pos 0) s'
-    → Created (record { capacity = capacity; small_ratio = small; ghost_ratio = ghost }) s Made s'
+    → Created (record { capacity = capacity; small_ratio = small; ghost_ratio = ghost }) s (Ok tt) s'
 made {capacity} {small} {ghost} {s} {s'} c =
     let g : Settings = record { capacity = capacity; small_ratio = small; ghost_ratio = ghost } in
-    subst (λ (r : Creation). Created g s r s') (by_code c.answer c.code_is) c.created
+    subst (λ (r : Result (Unit {0}) Turned). Created g s r s') (by_code c.answer c.code_is) c.created
   where
-    by_code : (r : Creation) → pos 0 ≡ code_of (created_says r) → r ≡ Made
-    by_code Made e = refl
-    by_code (NotMade t) e = absurd (omega (arith, ap below e, below_minus (number_of t), some_number t))
+    by_code : (r : Result (Unit {0}) Turned) → pos 0 ≡ code_of (created_says r) → r ≡ Ok tt
+    by_code (Ok u) e = refl
+    by_code (Err t) e = absurd (omega (arith, ap below e, below_minus (number_of t), some_number t))
 
-ran : {s q p s' p' : List ℕ} {n d : ℕ} → CalledAs s q p (pos n) d s' p' → Called s q p (Done n) s' p'
-ran {s} {q} {p} {s'} {p'} {n} c = subst (λ (r : Ran). Called s q p r s' p') (by_code c.answer c.code_is) c.called
+ran : {s q p s' p' : List ℕ} {n d : ℕ} → CalledAs s q p (pos n) d s' p' → Called s q p (Ok n) s' p'
+ran {s} {q} {p} {s'} {p'} {n} c = subst (λ (r : Result ℕ Turned). Called s q p r s' p') (by_code c.answer c.code_is) c.called
   where
-    by_code : (r : Ran) → pos n ≡ code_of (ran_says r) → r ≡ Done n
-    by_code (Done m) e = ap Done (sym (ap above e))
-    by_code (Refused t) e = absurd (omega (arith, ap below e, below_minus (number_of t), some_number t))
+    by_code : (r : Result ℕ Turned) → pos n ≡ code_of (ran_says r) → r ≡ Ok n
+    by_code (Ok m) e = ap Ok (sym (ap above e))
+    by_code (Err t) e = absurd (omega (arith, ap below e, below_minus (number_of t), some_number t))
 
 chain_stays : {s q p s' p' : List ℕ} {m : ℤ} {d : ℕ} {σ₀ : State} {rs : List Request} {bs : List ℕ} → Chain s σ₀ rs bs → CalledAs s q p m d s' p'
     → Negative m → Chain s' σ₀ rs bs
 chain_stays {s} {q} {p} {s'} {p'} {m} {d} {σ₀} {rs} {bs} g c h = by_answer c.answer c.code_is c.called
   where
-    by_answer : (r : Ran) → m ≡ code_of (ran_says r) → Called s q p r s' p' → Chain s' σ₀ rs bs
-    by_answer (Done n) e k = absurd (subst Negative e h)
-    by_answer (Refused t) e k = refused (number_of t) (detail_of t) g k refl
+    by_answer : (r : Result ℕ Turned) → m ≡ code_of (ran_says r) → Called s q p r s' p' → Chain s' σ₀ rs bs
+    by_answer (Ok n) e k = absurd (subst Negative e h)
+    by_answer (Err t) e k = refused (number_of t) (detail_of t) g k refl
 
 -- ---- feeds and streams
 
@@ -192,9 +189,9 @@ fed_once : {s c q p s₁ s₂ c₁ c₂ p₁ p₂ : List ℕ} {m n : ℤ} {i j d
 fed_once f g =
     let o = once.fed_once f.answer g.answer f.fed g.fed in
     record {
-      code = f.code_is ∙ ap (λ (r : Fed). code_of (fed_says r)) o.answer ∙ sym g.code_is;
-      replied = f.replied_is ∙ ap (λ (r : Fed). replies_in (fed_says r)) o.answer ∙ sym g.replied_is;
-      detail = f.detail_is ∙ ap (λ (r : Fed). detail_in (fed_says r)) o.answer ∙ sym g.detail_is;
+      code = f.code_is ∙ ap (λ (r : Result Fed Turned). code_of (fed_says r)) o.answer ∙ sym g.code_is;
+      replied = f.replied_is ∙ ap (λ (r : Result Fed Turned). replies_in (fed_says r)) o.answer ∙ sym g.replied_is;
+      detail = f.detail_is ∙ ap (λ (r : Result Fed Turned). detail_in (fed_says r)) o.answer ∙ sym g.detail_is;
       carries = o.carries;
       replies = o.replies;
       refused_same = fed-same (fed_says f.answer) f.code_is o.stores;
@@ -206,8 +203,8 @@ fed_once f g =
 finished_once : {c : List ℕ} {m n : ℤ} {d e : ℕ} → FinishedWith c m d → FinishedWith c n e → (m ≡ n) × (d ≡ e)
 finished_once f g =
     let o = once.finished_once f.answer g.answer f.finished g.finished in (
-      f.code_is ∙ ap (λ (r : Finish). code_of (finish_says r)) o ∙ sym g.code_is,
-      f.detail_is ∙ ap (λ (r : Finish). detail_in (finish_says r)) o ∙ sym g.detail_is,
+      f.code_is ∙ ap (λ (r : Result (Unit {0}) Turned). code_of (finish_says r)) o ∙ sym g.code_is,
+      f.detail_is ∙ ap (λ (r : Result (Unit {0}) Turned). detail_in (finish_says r)) o ∙ sym g.detail_is,
     )
 
 chain_feeds : {s c q p s' c' p' : List ℕ} {m : ℤ} {n d : ℕ} {σ₀ : State} {rs : List Request} {bs : List ℕ} → Chain s σ₀ rs bs → Bytes c → Bytes q
@@ -217,10 +214,10 @@ chain_feeds {q = q} {s' = s'} {p' = p'} {σ₀ = σ₀} {rs = rs} {bs = bs} g b 
     subst (λ (i : ℕ). Chain s' σ₀ (rs ++ carried_out (fed_says f.answer) (completed_of f.fed.carry q)) (bs ++ take i p')) (sym f.replied_is)
     (fed g b d f.fed)
 
-numbered_fed : (r : Fed) → Numbered (Unit {0}) (fed_says r)
-numbered_fed (Given n) = tt
-numbered_fed (Stopped n d) = tt
-numbered_fed (Away t) = some_number t
+numbered_fed : (r : Result Fed Turned) → Numbered (Unit {0}) (fed_says r)
+numbered_fed (Ok (Done n)) = tt
+numbered_fed (Ok (Stopped n d)) = tt
+numbered_fed (Err t) = some_number t
 
 minus_negative : (n : ℕ) → 1 ≤ n → Negative (neg_ℤ (pos n))
 minus_negative zero h = absurd (omega arith)

@@ -1,2 +1,1 @@
-mod CodeLaws
 mod ExportedLaws

@@ -1,7 +1,7 @@
 -- What the exported calls promise: what crates/s3_fifo/specs/Promises.antt says of the calls below them, in the numbers that C sees. `exported`
 -- (proofs/ExportedLaws.antt) gives it. Calls one after the other are a `Chain`, so all that `Promises` says of chains is said of them.
 -- Assumes nothing.
-use Rattle.std.specs.Prelude.{◌≡◌, List, [], ◌∷◌, ◌++◌, ℕ, take, ℤ, pos, negsuc, Float}
+use Rattle.std.specs.Prelude.{◌≡◌, List, [], ◌∷◌, ◌++◌, ℕ, take, ℤ, pos, negsuc, Float, Result}
 use Rattle.cells.specs.Cells.{Bytes}
 use Rattle.rules.specs.State.{State, empty_at}
 use Rattle.rules.specs.Records.{Request}
@@ -11,8 +11,7 @@ use Rattle.rules.specs.Feed.{completed_of, glued, ended}
 use Rattle.rules.specs.Sizing.{limits_for}
 use Rattle.rules.specs.Verdict.{damaged}
 use Rattle.sizing.specs.declared.Settings.{Settings}
-use Rattle.s3_fifo.specs.declared.Creation.{Creation}
-use Rattle.s3_fifo.specs.declared.Ran.{Ran}
+use Rattle.rules.specs.declared.Turned.{Turned}
 use Rattle.s3_fifo.specs.Calls.{Said, halted, created_says, ran_says, ReadsAs, Created}
 use Rattle.s3_fifo.specs.Feeds.{fed_says, replies_in, carried_out, verdict_says}
 use Rattle.s3_fifo.specs.Once.{Agrees}
@@ -66,9 +65,9 @@ pub record Exported : Type 0 where
       → OneFed m n i j d e s₁ s₂ c₁ c₂ p₁ p₂
   pub finished_once : {c : List ℕ} {m n : ℤ} {d e : ℕ} → FinishedWith c m d → FinishedWith c n e → (m ≡ n) × (d ≡ e)
   -- no two answers share number and detail, so that a host knows why it was turned away; of a creation the number is enough
-  pub created_apart : {g h : Settings} {s₁ s₂ t₁ t₂ : List ℕ} (r t : Creation) → Created g s₁ r s₂ → Created h t₁ t t₂
+  pub created_apart : {g h : Settings} {s₁ s₂ t₁ t₂ : List ℕ} (r t : Result (Unit {0}) Turned) → Created g s₁ r s₂ → Created h t₁ t t₂
       → code_of (created_says r) ≡ code_of (created_says t) → r ≡ t
-  pub called_apart : (r t : Ran) → code_of (ran_says r) ≡ code_of (ran_says t) → detail_in (ran_says r) ≡ detail_in (ran_says t) → r ≡ t
+  pub called_apart : (r t : Result ℕ Turned) → code_of (ran_says r) ≡ code_of (ran_says t) → detail_in (ran_says r) ≡ detail_in (ran_says t) → r ≡ t
   -- a fresh store never counts as damaged, nor does one that an accepted call or a feed left; nor is the record that a feed left ever one that no
   -- feed could have left
   pub created_intact : {capacity : ℕ} {small ghost : Float} {s s' : List ℕ} → CreatedAs capacity small ghost s (pos 0) s' → ReadsAs s' damaged → ⊥

@@ -5,12 +5,12 @@
 ghost use Rattle.std.specs.Prelude.{◌≡◌, pos, neg_ℤ};
 ghost use Rattle.rules.specs.Refusals.{store_bytes};
 ghost use Rattle.s3_fifo.specs.Calls.{created_says, ran_says};
-ghost use Rattle.s3_fifo.specs.Feeds.{fed_says, finish_says, replies_in};
-ghost use Rattle.mapcache.specs.Codes.{code_of, detail_in, FitsIn, CreatedAs, CalledAs, FedWith, FinishedWith};
+ghost use Rattle.s3_fifo.specs.Feeds.{fed_says, replies_in};
+ghost use Rattle.mapcache.specs.Codes.{code_of, detail_in, FitsIn, as_told, CreatedAs, CalledAs, FedWith, FinishedWith};
 
 use rules::Turned;
 use runs::Fed;
-use s3_fifo::{Creation, Finish, Ran, S3FifoCache};
+use s3_fifo::S3FifoCache;
 use sizing::Settings;
 
 // A refusal's number with a minus sign.
@@ -20,88 +20,52 @@ fn minus(number: u8) -> i64
     -(number as i64)
 }
 
-// The number that stands for what a creation answers.
-fn created_code(created: Creation) -> i64
-    ensures { result ≡ code_of (created_says created) }
+// The number that stands for an answer.
+fn code(answer: Result<usize, Turned>) -> i64
+    requires { FitsIn (ran_says answer) }
+    ensures { result ≡ code_of (ran_says answer) }
 {
-    match created {
-        Creation::Made => 0,
-        Creation::Refused(turned) => minus(turned.number()),
-    }
-}
-
-// The number that stands for what a call answers.
-fn ran_code(ran: Ran) -> i64
-    requires { FitsIn (ran_says ran) }
-    ensures { result ≡ code_of (ran_says ran) }
-{
-    match ran {
-        Ran::Done(n) => n as i64,
-        Ran::Refused(turned) => minus(turned.number()),
+    match answer {
+        Ok(n) => n as i64,
+        Err(turned) => minus(turned.number()),
     }
 }
 
 // The detail that goes with it.
-fn ran_detail(ran: Ran) -> u64
-    ensures { result ≡ detail_in (ran_says ran) }
+fn detail_of(answer: Result<usize, Turned>) -> u64
+    ensures { result ≡ detail_in (ran_says answer) }
 {
-    match ran {
-        Ran::Done(_) => 0,
-        Ran::Refused(turned) => turned.detail(),
+    match answer {
+        Ok(_) => 0,
+        Err(turned) => turned.detail(),
     }
 }
 
-// The number that stands for what a feed answers.
-fn fed_code(fed: Fed) -> i64
-    requires { FitsIn (fed_says fed) }
-    ensures { result ≡ code_of (fed_says fed) }
+// The answer of a creation or a finish, which write no replies.
+fn without_replies(answer: Result<(), Turned>) -> Result<usize, Turned>
+    ensures { ran_says result ≡ created_says answer }
 {
-    match fed {
-        Fed::Done(n) => n as i64,
-        Fed::Stopped(_, at) => minus(Turned::BadRecord(at).number()),
-        Fed::Refused(turned) => minus(turned.number()),
+    answer?;
+    Ok(0)
+}
+
+// The answer of a feed, where a stream that stops is told as a bad record.
+fn with_stops(answer: Result<Fed, Turned>) -> Result<usize, Turned>
+    ensures { ran_says result ≡ as_told (fed_says answer) }
+{
+    match answer? {
+        Fed::Done(n) => Ok(n),
+        Fed::Stopped(_, at) => Err(Turned::BadRecord(at)),
     }
 }
 
-// The detail that goes with it.
-fn fed_detail(fed: Fed) -> u64
-    ensures { result ≡ detail_in (fed_says fed) }
+// A feed's reply bytes, which count also where the stream stops.
+fn fed_replies(answer: Result<Fed, Turned>) -> u64
+    ensures { result ≡ replies_in (fed_says answer) }
 {
-    match fed {
-        Fed::Done(_) => 0,
-        Fed::Stopped(_, at) => at,
-        Fed::Refused(turned) => turned.detail(),
-    }
-}
-
-// The reply bytes, which count also where the stream stops.
-fn fed_replies(fed: Fed) -> u64
-    ensures { result ≡ replies_in (fed_says fed) }
-{
-    match fed {
-        Fed::Done(n) => n as u64,
-        Fed::Stopped(n, _) => n as u64,
-        Fed::Refused(_) => 0,
-    }
-}
-
-// The number that stands for what a finish answers.
-fn finish_code(finish: Finish) -> i64
-    ensures { result ≡ code_of (finish_says finish) }
-{
-    match finish {
-        Finish::Complete => 0,
-        Finish::Refused(turned) => minus(turned.number()),
-    }
-}
-
-// The detail that goes with it.
-fn finish_detail(finish: Finish) -> u64
-    ensures { result ≡ detail_in (finish_says finish) }
-{
-    match finish {
-        Finish::Complete => 0,
-        Finish::Refused(turned) => turned.detail(),
+    match answer {
+        Ok(Fed::Done(n) | Fed::Stopped(n, _)) => n as u64,
+        Err(_) => 0,
     }
 }
 
@@ -127,8 +91,7 @@ pub extern "C" fn mapcache_create(
         small_ratio,
         ghost_ratio,
     };
-    let created = S3FifoCache::create(settings, store);
-    created_code(created)
+    code(without_replies(S3FifoCache::create(settings, store)))
 }
 
 #[unsafe(no_mangle)]
@@ -142,8 +105,8 @@ pub extern "C" fn mapcache_run(
         store.new replies.new }
 {
     let ran = S3FifoCache::run(store, requests, replies);
-    *detail = ran_detail(ran);
-    ran_code(ran)
+    *detail = detail_of(ran);
+    code(ran)
 }
 
 #[unsafe(no_mangle)]
@@ -160,15 +123,16 @@ pub extern "C" fn mapcache_feed(
 {
     let fed = S3FifoCache::feed(store, carry, piece, replies);
     *replied = fed_replies(fed);
-    *detail = fed_detail(fed);
-    fed_code(fed)
+    let told = with_stops(fed);
+    *detail = detail_of(told);
+    code(told)
 }
 
 #[unsafe(no_mangle)]
 pub extern "C" fn mapcache_finish(carry: &[u8], detail: &mut u64) -> i64
     ensures { FinishedWith carry.now result detail.new }
 {
-    let finish = S3FifoCache::finish(carry);
-    *detail = finish_detail(finish);
-    finish_code(finish)
+    let finish = without_replies(S3FifoCache::finish(carry));
+    *detail = detail_of(finish);
+    code(finish)
 }

@@ -8,14 +8,15 @@ ghost use Rattle.nodes.specs.Nodes.{Field, cols, Room, GetsField};
 ghost use Rattle.key_index.specs.Stored.{col, Indexes};
 ghost use Rattle.census.specs.Check.{LeadsUp, EndOk, LinkOk, WalkSays, Behind, Visits, Counts, leads, is_going_on};
 
-use nodes::Shape;
+use nodes::{Column, Shape};
 
 // Whether the end of chains leads to itself, and its tag says free.
 fn end_ok(s: &[u8], z: Shape) -> bool
     requires { Room z s.now }
     ensures { Decides (EndOk z (cols z s.now)) result }
 {
-    nodes::chain_of(s, z, z.room) == z.room && nodes::queue_of(s, z, z.room) == 0
+    nodes::get(s, z, Column::Chain, z.room) == z.room
+        && nodes::get(s, z, Column::Queue, z.room) == 0
 }
 
 // Whether a link `m` behind a node with the key `k` ends the chain, or leads to a larger key.
@@ -24,7 +25,7 @@ fn leads_up(s: &[u8], z: Shape, k: u64, m: usize) -> bool
     ensures { Decides (LeadsUp z.room (col (cols z s.now Field.Key)) k m) result }
 {
     if m < z.room {
-        k < nodes::key_of(s, z, m)
+        k < nodes::get64(s, z, Column::Key, m)
     } else {
         m == z.room
     }
@@ -36,9 +37,9 @@ fn link_ok(s: &[u8], z: Shape, b: usize, x: usize) -> bool
     requires { Room z s.now × (x < z.room) }
     ensures { Decides (LinkOk z (cols z s.now) b x) result }
 {
-    let k = nodes::key_of(s, z, x);
-    let next = nodes::chain_of(s, z, x);
-    nodes::queue_of(s, z, x) != 0
+    let k = nodes::get64(s, z, Column::Key, x);
+    let next = nodes::get(s, z, Column::Chain, x);
+    nodes::get(s, z, Column::Queue, x) != 0
         && key_index::bucket_of_key(k, z.buckets) == b
         && leads_up(s, z, k, next)
 }
@@ -56,7 +57,7 @@ fn walk(s: &[u8], z: Shape, b: usize, h: usize) -> Option<usize>
         if !link_ok(s, z, b, at) {
             return None;
         }
-        at = nodes::chain_of(s, z, at);
+        at = nodes::get(s, z, Column::Chain, at);
         count += 1;
     }
     Some(count)
@@ -68,9 +69,9 @@ fn is_behind(s: &[u8], z: Shape, h: usize, x: usize, k: u64) -> bool
     ensures { Decides (Behind z (cols z s.now) h x k) result }
 {
     h < z.room
-        && nodes::queue_of(s, z, h) != 0
-        && nodes::chain_of(s, z, h) == x
-        && nodes::key_of(s, z, h) < k
+        && nodes::get(s, z, Column::Queue, h) != 0
+        && nodes::get(s, z, Column::Chain, h) == x
+        && nodes::get64(s, z, Column::Key, h) < k
 }
 
 // How many nodes a node with the tag `t` vouches for: the first of a chain for itself, and the second for
@@ -83,9 +84,9 @@ fn visit(s: &[u8], z: Shape, x: usize, t: usize) -> Option<usize>
     if t == 0 {
         return Some(0);
     }
-    let k = nodes::key_of(s, z, x);
+    let k = nodes::get64(s, z, Column::Key, x);
     let b = key_index::bucket_of_key(k, z.buckets);
-    let h = nodes::bucket_of(s, z, b);
+    let h = nodes::get(s, z, Column::Bucket, b);
     if h == x {
         Some(1)
     } else if is_behind(s, z, h, x, k) {
@@ -101,7 +102,7 @@ fn head_leads(s: &[u8], z: Shape, b: usize) -> bool
     requires { Room z s.now × (b < z.buckets) }
     ensures { Decides (0 < leads z (cols z s.now) b) result }
 {
-    nodes::bucket_of(s, z, b) as u16 != (z.room % 0x1_0000) as u16
+    nodes::get(s, z, Column::Bucket, b) as u16 != (z.room % 0x1_0000) as u16
 }
 
 // How many heads lead to something. They are counted in four bytes, for the same reason.
@@ -121,7 +122,7 @@ fn link_leads(s: &[u8], z: Shape, x: usize, t: usize) -> bool
     requires { Room z s.now × (x < z.room) × GetsField z s.now Field.Queue x t }
     ensures { Decides (0 < is_going_on z (cols z s.now) x) result }
 {
-    t != 0 && nodes::chain_of(s, z, x) != z.room
+    t != 0 && nodes::get(s, z, Column::Chain, x) != z.room
 }
 
 // Whether the nodes stand where `heads` heads should lead. Each node is visited once, and walked over at
@@ -135,7 +136,7 @@ fn nodes_stand(s: &[u8], z: Shape, heads: usize) -> bool
     let mut live = 0;
     let mut links = 0;
     for x in 0..z.room {
-        let t = nodes::queue_of(s, z, x);
+        let t = nodes::get(s, z, Column::Queue, x);
         let Some(m) = visit(s, z, x, t) else {
             return false;
         };

@@ -11,7 +11,7 @@ ghost use Rattle.key_index.specs.Index.{bucket_of};
 ghost use Rattle.key_index.specs.Walks.{FirstIs, Goes, InFront, Gap};
 ghost use Rattle.key_index.specs.Stored.{col, LiveIn, Indexes, IsFound, CanJoin, Joins, Unchains, EmptyBuckets, Empties};
 
-use nodes::Shape;
+use nodes::{Column, Shape};
 
 // The bucket of a key.
 pub fn bucket_of_key(k: u64, buckets: usize) -> usize
@@ -31,10 +31,10 @@ fn first_in(s: &[u8], z: Shape, h: usize, k: u64) -> Option<usize>
 {
     let mut at = h;
     while at < z.room {
-        if nodes::key_of(s, z, at) == k {
+        if nodes::get64(s, z, Column::Key, at) == k {
             return Some(at);
         }
-        at = nodes::chain_of(s, z, at);
+        at = nodes::get(s, z, Column::Chain, at);
     }
     None
 }
@@ -45,7 +45,7 @@ pub fn find(s: &[u8], z: Shape, k: u64) -> Option<usize>
     ensures { IsFound z (cols z s.now) k result }
 {
     let b = bucket_of_key(k, z.buckets);
-    let h = nodes::bucket_of(s, z, b);
+    let h = nodes::get(s, z, Column::Bucket, b);
     first_in(s, z, h, k)
 }
 
@@ -58,11 +58,11 @@ fn place_of(s: &[u8], z: Shape, h: usize, k: u64) -> usize
     let mut at = h;
     let mut low = z.room;
     while at < z.room {
-        if k <= nodes::key_of(s, z, at) {
+        if k <= nodes::get64(s, z, Column::Key, at) {
             return low;
         }
         low = at;
-        at = nodes::chain_of(s, z, at);
+        at = nodes::get(s, z, Column::Chain, at);
     }
     low
 }
@@ -74,17 +74,17 @@ pub fn add(s: &mut [u8], z: Shape, x: usize, k: u64)
     ensures { Joins z (cols z s.old) (cols z s.new) x k }
 {
     let b = bucket_of_key(k, z.buckets);
-    let h = nodes::bucket_of(s, z, b);
+    let h = nodes::get(s, z, Column::Bucket, b);
     let p = place_of(s, z, h, k);
     if p < z.room {
-        let next = nodes::chain_of(s, z, p);
-        nodes::set_key(s, z, x, k);
-        nodes::set_chain(s, z, x, next);
-        nodes::set_chain(s, z, p, x);
+        let next = nodes::get(s, z, Column::Chain, p);
+        nodes::set64(s, z, Column::Key, x, k);
+        nodes::set(s, z, Column::Chain, x, next);
+        nodes::set(s, z, Column::Chain, p, x);
     } else {
-        nodes::set_key(s, z, x, k);
-        nodes::set_chain(s, z, x, h);
-        nodes::set_bucket(s, z, b, x);
+        nodes::set64(s, z, Column::Key, x, k);
+        nodes::set(s, z, Column::Chain, x, h);
+        nodes::set(s, z, Column::Bucket, b, x);
     }
 }
 
@@ -95,7 +95,7 @@ fn in_front(s: &[u8], z: Shape, h: usize, x: usize) -> usize
 {
     let mut p = h;
     loop {
-        let next = nodes::chain_of(s, z, p);
+        let next = nodes::get(s, z, Column::Chain, p);
         if next == x {
             return p;
         }
@@ -108,15 +108,15 @@ pub fn remove(s: &mut [u8], z: Shape, x: usize)
     requires { Room z s.old × Indexes z (cols z s.old) × LiveIn z (cols z s.old) x }
     ensures { Unchains z (cols z s.old) (cols z s.new) x }
 {
-    let k = nodes::key_of(s, z, x);
+    let k = nodes::get64(s, z, Column::Key, x);
     let b = bucket_of_key(k, z.buckets);
-    let h = nodes::bucket_of(s, z, b);
-    let next = nodes::chain_of(s, z, x);
+    let h = nodes::get(s, z, Column::Bucket, b);
+    let next = nodes::get(s, z, Column::Chain, x);
     if h == x {
-        nodes::set_bucket(s, z, b, next);
+        nodes::set(s, z, Column::Bucket, b, next);
     } else {
         let p = in_front(s, z, h, x);
-        nodes::set_chain(s, z, p, next);
+        nodes::set(s, z, Column::Chain, p, next);
     }
 }
 
@@ -126,7 +126,7 @@ fn empty_buckets(s: &mut [u8], z: Shape)
     ensures { EmptyBuckets z (cols z s.old) (cols z s.new) }
 {
     for b in 0..z.buckets {
-        nodes::set_bucket(s, z, b, z.room);
+        nodes::set(s, z, Column::Bucket, b, z.room);
     }
 }
 
@@ -136,6 +136,6 @@ pub fn set_up(s: &mut [u8], z: Shape)
     ensures { Empties z (cols z s.old) (cols z s.new) }
 {
     empty_buckets(s, z);
-    nodes::set_chain(s, z, z.room, z.room);
-    nodes::set_queue(s, z, z.room, 0);
+    nodes::set(s, z, Column::Chain, z.room, z.room);
+    nodes::set(s, z, Column::Queue, z.room, 0);
 }

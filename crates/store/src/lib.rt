@@ -18,6 +18,7 @@ ghost use Rattle.store.specs.Seats.{FreqSet, ValueReplaced, EntryRemoved, Reatta
 ghost use Rattle.store.specs.Looks.{Looks};
 ghost use Rattle.store.specs.Created.{Limited, SetUp, Stated};
 
+use nodes::Column;
 pub use nodes::Shape;
 use rules::{GuestBlock, PhysicalBlock};
 use sizing::Limits;
@@ -69,7 +70,7 @@ pub fn limit_of(s: &[u8], z: Shape, which: Limit) -> u64
     requires { Keeps z s.now }
     ensures { result ≡ limit_in which (state_in z s.now) }
 {
-    nodes::head_of(s, z, which as usize)
+    nodes::get64(s, z, Column::Head, which as usize)
 }
 
 // How many entries a queue has.
@@ -113,7 +114,7 @@ pub fn look(s: &[u8], z: Shape, k: GuestBlock) -> Lookup
     let Some(x) = key_index::find(s, z, k.0) else {
         return Lookup::Absent;
     };
-    match nodes::queue_of(s, z, x) {
+    match nodes::get(s, z, Column::Queue, x) {
         lists::GHOSTS => Lookup::Ghost(x),
         lists::SMALL => Lookup::Resident(QueueKind::Small, x),
         _ => Lookup::Resident(QueueKind::Main, x),
@@ -126,9 +127,9 @@ pub fn entry_at(s: &[u8], z: Shape, x: usize) -> Entry
     ensures { GetsEntry z s.now x result }
 {
     Entry {
-        key: GuestBlock(nodes::key_of(s, z, x)),
-        value: PhysicalBlock(nodes::value_of(s, z, x)),
-        freq: nodes::freq_of(s, z, x),
+        key: GuestBlock(nodes::get64(s, z, Column::Key, x)),
+        value: PhysicalBlock(nodes::get64(s, z, Column::Value, x)),
+        freq: nodes::get(s, z, Column::Freq, x),
     }
 }
 
@@ -137,7 +138,7 @@ pub fn ghost_at(s: &[u8], z: Shape, x: usize) -> GuestBlock
     requires { Room z s.now × (x < z.room) }
     ensures { GetsGhost z s.now x result }
 {
-    GuestBlock(nodes::key_of(s, z, x))
+    GuestBlock(nodes::get64(s, z, Column::Key, x))
 }
 
 // Whether a node says that it is in one of the two queues.
@@ -145,7 +146,7 @@ pub fn holds_resident(s: &[u8], z: Shape, x: usize) -> bool
     requires { Room z s.now × (x < z.room) }
     ensures { Decides (HoldsResident z s.now x) result }
 {
-    let list = nodes::queue_of(s, z, x);
+    let list = nodes::get(s, z, Column::Queue, x);
     list == lists::SMALL || list == lists::MAIN
 }
 
@@ -162,7 +163,7 @@ pub fn set_freq(s: &mut [u8], z: Shape, x: usize, n: usize)
     requires { Keeps z s.old × (x < z.room) × (n < 256) }
     ensures { FreqSet z s.old s.new x n }
 {
-    nodes::set_freq(s, z, x, n);
+    nodes::set(s, z, Column::Freq, x, n);
 }
 
 // The entry at a node gets another value and another frequency.
@@ -170,8 +171,8 @@ pub fn replace(s: &mut [u8], z: Shape, x: usize, v: PhysicalBlock, n: usize)
     requires { Keeps z s.old × (x < z.room) × (n < 256) }
     ensures { ValueReplaced z s.old s.new x v.0 n }
 {
-    nodes::set_value(s, z, x, v.0);
-    nodes::set_freq(s, z, x, n);
+    nodes::set64(s, z, Column::Value, x, v.0);
+    nodes::set(s, z, Column::Freq, x, n);
 }
 
 // The entry of a queue at a node leaves; the node is free.
@@ -200,7 +201,7 @@ pub fn reattach_main_head(s: &mut [u8], z: Shape, q: QueueKind, x: usize, n: usi
     ensures { Reattached z s.old s.new (queue_kind q) x n }
 {
     move_to_main(s, z, list_of(q), x);
-    nodes::set_freq(s, z, x, n);
+    nodes::set(s, z, Column::Freq, x, n);
 }
 
 // The entry of a queue at a node leaves, and the node becomes the newest ghost: its key is in the index already.
@@ -260,9 +261,27 @@ fn set_limits(s: &mut [u8], z: Shape, limits: Limits)
     requires { Room z s.old }
     ensures { Limited z s.old s.new (the_limits_of limits) }
 {
-    nodes::set_head(s, z, Limit::Capacity as usize, limits.capacity);
-    nodes::set_head(s, z, Limit::Small as usize, limits.small_limit);
-    nodes::set_head(s, z, Limit::Ghosts as usize, limits.ghost_limit);
+    nodes::set64(
+        s,
+        z,
+        Column::Head,
+        Limit::Capacity as usize,
+        limits.capacity,
+    );
+    nodes::set64(
+        s,
+        z,
+        Column::Head,
+        Limit::Small as usize,
+        limits.small_limit,
+    );
+    nodes::set64(
+        s,
+        z,
+        Column::Head,
+        Limit::Ghosts as usize,
+        limits.ghost_limit,
+    );
 }
 
 // Creates a store with these limits from any bytes: it holds the empty state.
@@ -285,8 +304,8 @@ pub fn limits_of(s: &[u8]) -> Limits
         buckets: 1,
     };
     Limits {
-        capacity: nodes::head_of(s, least, Limit::Capacity as usize),
-        small_limit: nodes::head_of(s, least, Limit::Small as usize),
-        ghost_limit: nodes::head_of(s, least, Limit::Ghosts as usize),
+        capacity: nodes::get64(s, least, Column::Head, Limit::Capacity as usize),
+        small_limit: nodes::get64(s, least, Column::Head, Limit::Small as usize),
+        ghost_limit: nodes::get64(s, least, Column::Head, Limit::Ghosts as usize),
     }
 }

@@ -117,12 +117,12 @@ fn request_at(s: &[u8], at: usize, kind: Kind) -> Request
     ensures { Asks s.now at kind result }
 {
     match kind {
-        Kind::Get => Request::Get(GuestBlock(cells::get64(s, at + 2))),
-        Kind::Peek => Request::Peek(GuestBlock(cells::get64(s, at + 2))),
-        Kind::Remove => Request::Remove(GuestBlock(cells::get64(s, at + 2))),
+        Kind::Get => Request::Get(GuestBlock(cells::get(s, at + 2, 8))),
+        Kind::Peek => Request::Peek(GuestBlock(cells::get(s, at + 2, 8))),
+        Kind::Remove => Request::Remove(GuestBlock(cells::get(s, at + 2, 8))),
         Kind::Insert => Request::Insert(
-            GuestBlock(cells::get64(s, at + 2)),
-            PhysicalBlock(cells::get64(s, at + 10)),
+            GuestBlock(cells::get(s, at + 2, 8)),
+            PhysicalBlock(cells::get(s, at + 10, 8)),
         ),
         Kind::Evict => Request::Evict,
         Kind::Clear => Request::Clear,
@@ -190,7 +190,7 @@ fn put_number(replies: &mut [u8], at: usize, v: u64) -> usize
     requires { at + 8 ≤ length replies.old }
     ensures { Wrote replies.old at (bytes_of 8 v) replies.new result }
 {
-    cells::put64(replies, at, v);
+    cells::put(replies, at, 8, v);
     at + 8
 }
 

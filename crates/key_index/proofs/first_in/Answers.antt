@@ -8,8 +8,8 @@ use Rattle.key_index.proofs.first_in.Goals as goal
 
 ruleset laws = (rules, depth, seen_none, passed_start, walk-found, walk-next, walk-less)
 
-pub returns-then-key_of-k : goal.returns-then-key_of-k
-returns-then-key_of-k c = search laws
+pub returns-then-get64-k : goal.returns-then-get64-k
+returns-then-get64-k c = search laws
 
 pub loop-at-smaller : goal.loop-at-smaller
 loop-at-smaller c = search laws

@@ -10,8 +10,8 @@ ruleset laws = (rules, depth, under-start, place_found, place-next, walk-less, p
 pub loop-at-init : goal.loop-at-init
 loop-at-init c = search laws
 
-pub returns-then-k-key_of : goal.returns-then-k-key_of
-returns-then-k-key_of c = search laws
+pub returns-then-k-get64 : goal.returns-then-k-get64
+returns-then-k-get64 c = search laws
 
 pub loop-at-smaller : goal.loop-at-smaller
 loop-at-smaller c = search laws

@@ -160,9 +160,9 @@ module _ (bs : List ℕ) where
                 same ∙ ap (λ (t : Bool). carry_written (record { offset = (shown bs).offset; kept = k; stopped = t })) t in
                 let c = wait-could (shown bs).offset k two p.0 (leb-true ((shown bs).offset + length k) last_offset p.1) in
                 let a : CarryAs bs (record { offset = (shown bs).offset; kept = k; stopped = false }) = record { long = long; written = w; could = c } in
-                let as : CarryAs bs (record { offset = (shown bs).offset; kept = kept_in bs (length k); stopped = false }) =
+                let kept_as : CarryAs bs (record { offset = (shown bs).offset; kept = kept_in bs (length k); stopped = false }) =
                 subst (λ (j : ℕ). CarryAs bs (record { offset = (shown bs).offset; kept = kept_in bs j; stopped = false })) (sym n) a in
-                subst (Brings bs) (sym i) (one as)
+                subst (Brings bs) (sym i) (one kept_as)
             go false g i =
                 subst (Brings bs) (sym i)
                 (unfit-shown (λ a.

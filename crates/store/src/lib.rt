@@ -6,7 +6,7 @@
 ghost use Rattle.std.specs.Prelude.{◌≡◌, ◌≤◌, ◌<◌, length};
 ghost use Rattle.cells.specs.Decides.{Decides};
 ghost use Rattle.nodes.specs.Nodes.{Room};
-ghost use Rattle.lists.specs.Lists.{list_count};
+ghost use Rattle.lists.specs.Kinds.{number};
 ghost use Rattle.pool.specs.Carries.{Pooled, CanMove, Moved};
 ghost use Rattle.rules.specs.State.{Queue, queue_of, Fine};
 ghost use Rattle.rules.specs.Refusals.{store_bytes};
@@ -18,6 +18,7 @@ ghost use Rattle.store.specs.Seats.{FreqSet, ValueReplaced, EntryRemoved, Reatta
 ghost use Rattle.store.specs.Looks.{Looks};
 ghost use Rattle.store.specs.Created.{Limited, SetUp, Stated};
 
+use lists::ListKind;
 use nodes::Column;
 pub use nodes::Shape;
 use rules::{GuestBlock, PhysicalBlock};
@@ -54,14 +55,13 @@ pub enum Limit {
     Ghosts = 2,
 }
 
-// The number of a queue's list.
-fn list_of(q: QueueKind) -> usize
-    ensures value { result ≡ list_no (queue_kind q) }
-    ensures upper_bound { result < list_count }
+// A queue's list.
+fn list_of(q: QueueKind) -> ListKind
+    ensures { number result ≡ list_no (queue_kind q) }
 {
     match q {
-        QueueKind::Small => lists::SMALL,
-        QueueKind::Main => lists::MAIN,
+        QueueKind::Small => ListKind::Small,
+        QueueKind::Main => ListKind::Main,
     }
 }
 
@@ -87,7 +87,7 @@ pub fn ghost_len(s: &[u8], z: Shape) -> u64
     requires { Keeps z s.now }
     ensures { result ≡ length (state_in z s.now).ghosts }
 {
-    lists::length_of(s, z, lists::GHOSTS)
+    lists::length_of(s, z, ListKind::Ghosts)
 }
 
 // The last entry of a queue that is not empty.
@@ -103,7 +103,7 @@ pub fn oldest_of(s: &[u8], z: Shape) -> usize
     requires { Keeps z s.now × (1 ≤ length (state_in z s.now).ghosts) }
     ensures { Oldest z s.now result }
 {
-    lists::tail_of(s, z, lists::GHOSTS)
+    lists::tail_of(s, z, ListKind::Ghosts)
 }
 
 // One walk along the key's chain tells all three apart, since residents and ghosts share the index.
@@ -114,11 +114,14 @@ pub fn look(s: &[u8], z: Shape, k: GuestBlock) -> Lookup
     let Some(x) = key_index::find(s, z, k.0) else {
         return Lookup::Absent;
     };
-    match nodes::get(s, z, Column::Queue, x) {
-        lists::GHOSTS => Lookup::Ghost(x),
-        lists::SMALL => Lookup::Resident(QueueKind::Small, x),
-        _ => Lookup::Resident(QueueKind::Main, x),
+    let t = nodes::get(s, z, Column::Queue, x);
+    if t == ListKind::Ghosts.number() {
+        return Lookup::Ghost(x);
     }
+    if t == ListKind::Small.number() {
+        return Lookup::Resident(QueueKind::Small, x);
+    }
+    Lookup::Resident(QueueKind::Main, x)
 }
 
 // The entry at a node.
@@ -147,7 +150,7 @@ pub fn holds_resident(s: &[u8], z: Shape, x: usize) -> bool
     ensures { Decides (HoldsResident z s.now x) result }
 {
     let list = nodes::get(s, z, Column::Queue, x);
-    list == lists::SMALL || list == lists::MAIN
+    list == ListKind::Small.number() || list == ListKind::Main.number()
 }
 
 // Whether the lists and the index of bytes that nobody vouches for are as they should be.
@@ -184,14 +187,14 @@ pub fn remove_at(s: &mut [u8], z: Shape, q: QueueKind, x: usize)
 }
 
 // Moves node x of list t to Main's head. Where that is its own list no length and no tag changes, so its links alone are written.
-fn move_to_main(s: &mut [u8], z: Shape, t: usize, x: usize)
-    requires { Room z s.old × CanMove z s.old t (list_no Queue.Main) x }
-    ensures { Moved z s.old s.new t (list_no Queue.Main) x }
+fn move_to_main(s: &mut [u8], z: Shape, t: ListKind, x: usize)
+    requires { Room z s.old × CanMove z s.old (number t) (list_no Queue.Main) x }
+    ensures { Moved z s.old s.new (number t) (list_no Queue.Main) x }
 {
-    if t == lists::MAIN {
+    if t == ListKind::Main {
         pool::move_to_head(s, z, t, x);
     } else {
-        pool::move_to(s, z, t, lists::MAIN, x);
+        pool::move_to(s, z, t, ListKind::Main, x);
     }
 }
 
@@ -209,7 +212,7 @@ pub fn detach_to_ghosts(s: &mut [u8], z: Shape, q: QueueKind, x: usize)
     requires { Keeps z s.old × Seated z s.old (queue_kind q) x }
     ensures { DetachedToGhosts z s.old s.new (queue_kind q) x }
 {
-    pool::move_to(s, z, list_of(q), lists::GHOSTS, x);
+    pool::move_to(s, z, list_of(q), ListKind::Ghosts, x);
 }
 
 // A new pair goes to the head of a queue with frequency 0.
@@ -225,7 +228,7 @@ pub fn remove_ghost(s: &mut [u8], z: Shape, x: usize)
     requires { Keeps z s.old × GhostSeated z s.old x }
     ensures { GhostRemoved z s.old s.new x }
 {
-    pool::release(s, z, lists::GHOSTS, x);
+    pool::release(s, z, ListKind::Ghosts, x);
 }
 
 // The ghost at a node goes to the front.
@@ -233,7 +236,7 @@ pub fn move_to_front(s: &mut [u8], z: Shape, x: usize)
     requires { Keeps z s.old × GhostSeated z s.old x }
     ensures { Fronted z s.old s.new x }
 {
-    pool::move_to_head(s, z, lists::GHOSTS, x);
+    pool::move_to_head(s, z, ListKind::Ghosts, x);
 }
 
 // A new ghost goes in front. Its node's value is of no account.
@@ -241,7 +244,7 @@ pub fn push_front(s: &mut [u8], z: Shape, k: GuestBlock)
     requires { Keeps z s.old × CanPushFront z s.old k.0 }
     ensures { PushedFront z s.old s.new k.0 }
 {
-    pool::fill(s, z, lists::GHOSTS, k.0, 0);
+    pool::fill(s, z, ListKind::Ghosts, k.0, 0);
 }
 
 // The numbers of nodes and of buckets that a store has by its limits.

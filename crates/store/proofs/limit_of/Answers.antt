@@ -15,4 +15,4 @@ numbered Small = refl
 numbered Ghosts = refl
 
 pub returns : goal.returns
-returns c = limit-is c.args.which (numbered c.args.which) c.head_of.ensures
+returns c = limit-is c.args.which (numbered c.args.which) c.get64.ensures.gets_field

@@ -120,7 +120,7 @@ pub fn to_front(s: &mut [u8], z: Shape, t: ListKind, x: usize)
     link(s, z, h, x);
 }
 
-// Whether the lengths in the header come to the number of nodes. The sum of four numbers of 64 bits has more.
+// Whether the lengths in the header come to the number of nodes. Four numbers of 64 bits may come to more than fits in one.
 fn counted(s: &[u8], z: Shape) -> bool
     requires { Room z s.now }
     ensures { Decides (Counted z s.now) result }

@@ -79,6 +79,7 @@ fn cells_of(z: Shape, c: Column) -> Cells
     }
 }
 
+// The number in cell i of a column.
 #[inline(always)]
 pub fn get64(s: &[u8], z: Shape, c: Column, i: usize) -> u64
     requires { Room z s.now × (i < rows z c) }
@@ -89,6 +90,7 @@ pub fn get64(s: &[u8], z: Shape, c: Column, i: usize) -> u64
     cells::get(s, p.start + p.width * i, p.width)
 }
 
+// Writes a number to cell i of a column, and nothing else.
 #[inline(always)]
 pub fn set64(s: &mut [u8], z: Shape, c: Column, i: usize, v: u64)
     requires { Room z s.old × (i < rows z c) × (v < limit z c) }
@@ -98,7 +100,7 @@ pub fn set64(s: &mut [u8], z: Shape, c: Column, i: usize, v: u64)
     cells::put(s, p.start + p.width * i, p.width, v);
 }
 
-// The same for numbers of nodes, of lists and of uses.
+// The same for the numbers that code counts in usize: of nodes, of lists and of uses.
 #[inline(always)]
 pub fn get(s: &[u8], z: Shape, c: Column, i: usize) -> usize
     requires { Room z s.now × (i < rows z c) }
@@ -108,6 +110,7 @@ pub fn get(s: &[u8], z: Shape, c: Column, i: usize) -> usize
     get64(s, z, c, i) as usize
 }
 
+// And a write of one.
 #[inline(always)]
 pub fn set(s: &mut [u8], z: Shape, c: Column, i: usize, v: usize)
     requires { Room z s.old × (i < rows z c) × (v < limit z c) }

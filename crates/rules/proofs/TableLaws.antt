@@ -1,6 +1,6 @@
 -- The laws of the table: a row is found by its mark, and what was found is its kind's row.
 -- Assumes nothing.
-use Prim.Native.Nat.{ℕ, ◌+◌, ◌*◌, ◌≤◌, ◌<◌}
+use Prim.Native.Nat.{ℕ, zero, suc, ◌+◌, ◌*◌, ◌≤◌, ◌<◌}
 use native.Mathlib.Omega.{arith}
 use native.Mathlib.Numerals.{add-one}
 use mathlib.Core.Path.{◌≡◌, refl, sym, ap, ◌∙◌}
@@ -13,6 +13,12 @@ use Rattle.rules.specs.declared.Row.{Row}
 use Rattle.rules.specs.declared.Kind.{Kind}
 use Rattle.rules.specs.declared.Kind.TheVariants.{Get, Peek, Remove, Insert, Evict, Clear}
 use Rattle.rules.specs.Bytes.{row, kinds, table, marks, find, made, room_to_byte, room_of}
+
+-- inside the list the default is never read
+pub get_d_any : {A : Type 0} (l : List A) (i : ℕ) (d e : A) → i < length l → get_or l i d ≡ get_or l i e
+get_d_any [] i d e h = absurd (omega arith)
+get_d_any (x ∷ l) zero d e h = refl
+get_d_any (x ∷ l) (suc i) d e h = get_d_any l i d e (omega arith)
 
 -- ---- a search along the rows
 

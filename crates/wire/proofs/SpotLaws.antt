@@ -11,6 +11,7 @@ use mir.Syntax.{w64}
 use mir.Val.{Fits}
 use borrow.Author.Tests.{le-leb, lt-leb, le-ltb, lt-ltb}
 use Rattle.rules.specs.declared.Row.{Row}
+use Rattle.rules.specs.declared.Kind.TheVariants.{Get}
 use Rattle.rules.specs.Records.{Request}
 use Rattle.rules.specs.Bytes.{row, table, marks, find, Spot, at, unknown, cut, over, spot_at, made, Reading, ask, reading, reading_at}
 use Rattle.rules.proofs.TableLaws.{find-hit, find-miss, find-over, find_known, row-kind}
@@ -29,28 +30,22 @@ seek s i rows = find (get_or s i 0) (get_or s (i + 1) 0) rows
 pub record Seeking (s : List ℕ) (at i : ℕ) : Type 0 where
   pub on : seek s at table ≡ seek s at (drop i table)
 
-module _ {s : List ℕ} {at i : ℕ} {rows : List Row} (t : rows ≡ table) (g : Seeking s at i) where
-  pub seek-over : length rows ≤ i → Meets s at None
-  seek-over h = record { is = sym (g.on ∙ find-over (get_or s at 0) (get_or s (at + 1) 0) table i (omega (arith, h, ap length t))) }
+module _ {s : List ℕ} {at i : ℕ} (g : Seeking s at i) where
+  pub seek-over : length table ≤ i → Meets s at None
+  seek-over h = record { is = sym (g.on ∙ find-over (get_or s at 0) (get_or s (at + 1) 0) table i h) }
 
-  module _ (d : Row) (h : i < length rows) {b : Bool} (m : Marked s at (get_or rows i d).mark b) where
-    inside : i < length table
-    inside = omega (arith, h, ap length t)
+  module _ (h : i < length table) {r : Row} (e : r ≡ get_or table i (row Get)) {b : Bool} (m : Marked s at r.mark b) where
+    tells : (t : Bool) → b ≡ t → marks (get_or s at 0) (get_or s (at + 1) 0) (get_or table i (row Get)).mark ≡ t
+    tells t is = ap (λ x. marks (get_or s at 0) (get_or s (at + 1) 0) x.mark) (sym e) ∙ sym m.is ∙ is
 
-    same : get_or rows i d ≡ get_or table i d
-    same = ap (λ (l : List Row). get_or l i d) t
-
-    tells : (u : Bool) → b ≡ u → marks (get_or s at 0) (get_or s (at + 1) 0) (get_or table i d).mark ≡ u
-    tells u is = ap (λ x. marks (get_or s at 0) (get_or s (at + 1) 0) x.mark) (sym same) ∙ sym m.is ∙ is
-
-    pub seek_found : b ≡ true → Meets s at (Some (get_or rows i d))
+    pub seek_found : b ≡ true → Meets s at (Some r)
     seek_found y =
-        let hit : seek s at (drop i table) ≡ Some (get_or rows i d) =
-        find-hit (get_or s at 0) (get_or s (at + 1) 0) table i d inside (tells true y) ∙ ap (λ (x : Row). Some x) (sym same) in
+        let hit : seek s at (drop i table) ≡ Some r =
+        find-hit (get_or s at 0) (get_or s (at + 1) 0) table i (row Get) h (tells true y) ∙ ap (λ (x : Row). Some x) (sym e) in
         record { is = sym (g.on ∙ hit) }
 
     pub seek-next : b ≡ false → Seeking s at (i + 1)
-    seek-next n = record { on = g.on ∙ find-miss (get_or s at 0) (get_or s (at + 1) 0) table i d inside (tells false n) }
+    seek-next n = record { on = g.on ∙ find-miss (get_or s at 0) (get_or s (at + 1) 0) table i (row Get) h (tells false n) }
 
 -- ---- the tests of what stands at an offset
 

@@ -81,9 +81,10 @@ fn find_row(s: &[u8], at: usize) -> Option<Row>
     requires { at + 2 ≤ length s.now }
     ensures { Meets s.now at result }
 {
-    for row in rules::rows() {
+    for i in 0..rules::ROWS {
+        let row = rules::row_of(i);
         if marked(s, at, &row.mark) {
-            return Some(*row);
+            return Some(row);
         }
     }
     None

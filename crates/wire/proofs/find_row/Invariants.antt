@@ -2,5 +2,5 @@
 use Rattle.wire.proofs.SpotLaws.{Seeking}
 use Rattle.wire.proofs.find_row.Given as goal
 
-abbrev pub invariant-loop-row : goal.invariant-loop-row
-invariant-loop-row l = Seeking l.s l.at l.row-index
+abbrev pub invariant-loop-i : goal.invariant-loop-i
+invariant-loop-i l = Seeking l.s l.at l.i

@@ -68,7 +68,7 @@ pub struct Survey {
     pub stop: Stop,
 }
 
-// Whether the two bytes at an offset are a mark.
+// Whether the two bytes at an offset are a mark. Two bytes by their places say it as plainly as a range and an `==` of slices.
 fn marked(s: &[u8], at: usize, mark: &[u8; 2]) -> bool
     requires { at + 2 ≤ length s.now }
     ensures { Marked s.now at mark.now result }
@@ -178,6 +178,7 @@ pub fn survey_all(s: &[u8]) -> Survey
 }
 
 // Each writer writes at an offset and gives the offset after it: a mark, a number, a mark and a number, a mark and two.
+// One writer of any count of numbers would be a loop with an invariant over one or two of them, which is no plainer.
 fn put_mark(replies: &mut [u8], at: usize, mark: [u8; 2]) -> usize
     requires { at + 2 ≤ length replies.old }
     ensures { Wrote replies.old at mark replies.new result }

@@ -1,39 +1,43 @@
 // What the programs share to take their input in (RULES 9, RULES 10): buffers, and reading until one is full.
 #![tactic(auto)]
 
-ghost use Rattle.std.specs.Prelude.{◌≡◌, ◌≤◌, length};
+ghost use Rattle.std.specs.Prelude.{◌≡◌, ◌≤◌, ◌<◌, length, take, IfOk, IfErr};
+ghost use Rattle.std.specs.Io.KnownBytes.{Consumes, IsAtEnd};
 
 use std::io::Read;
 
-const BUFFER_BYTES: usize = 4096;
+// Enough for an argument.
+pub const ARGUMENT_BYTES: usize = 4096;
 
-const LARGE_BUFFER_BYTES: usize = 65536;
+// Enough for a store, for requests or for replies.
+pub const LARGE_BYTES: usize = 65536;
 
-// Zeros, of which the contract gives the number alone, so that no proof has to write them out: enough for an argument.
-pub fn buffer() -> [u8; BUFFER_BYTES]
-    ensures { BUFFER_BYTES ≡ length result }
+// Before a read failed so many bytes had come.
+#[derive(Clone, Copy)]
+pub struct Cut(pub usize);
+
+// Zeros, of which the contract gives the number alone, so that no proof has to write them out.
+pub fn zeros<const N: usize>() -> [u8; N]
+    ensures { N ≡ length result }
 {
-    [0; BUFFER_BYTES]
+    [0; N]
 }
 
-// The same for a store, for requests or for replies.
-pub fn large_buffer() -> [u8; LARGE_BUFFER_BYTES]
-    ensures { LARGE_BUFFER_BYTES ≡ length result }
-{
-    [0; LARGE_BUFFER_BYTES]
-}
-
-// Reads until buf is full, the input ends or a read fails, and says how many bytes came.
-pub fn read_full<R: Read>(from: &mut R, buf: &mut [u8]) -> usize
-    ensures { result ≤ length buf.new }
+// Reads until buf is full, the input ends or a read fails, and says how many bytes came: they stand at the start of buf.
+pub fn read_full<R: Read>(from: &mut R, buf: &mut [u8]) -> Result<usize, Cut>
+    ensures upper_bound { IfOk result (λ n. n ≤ length buf.new) }
+    ensures cut { IfErr result (λ c. c.0 ≤ length buf.new) }
+    ensures bytes { IfOk result (λ n. Consumes (R.remaining from.old) (R.remaining from.new) (take n buf.new)) }
+    ensures end { IfOk result (λ n. n < length buf.new → IsAtEnd (R.remaining from.new)) }
+    ensures bytes_cut { IfErr result (λ c. Consumes (R.remaining from.old) (R.remaining from.new) (take c.0 buf.new)) }
 {
     let mut done = 0;
     while done < buf.len() {
         match from.read(&mut buf[done..]) {
-            Ok(0) => break,
+            Ok(0) => return Ok(done),
             Ok(n) => done += n,
-            Err(_) => break,
+            Err(_) => return Err(Cut(done)),
         }
     }
-    done
+    Ok(done)
 }

@@ -41,3 +41,14 @@ pub fn read_full<R: Read>(from: &mut R, buf: &mut [u8]) -> Result<usize, Cut>
     }
     Ok(done)
 }
+
+// The same, where a read that fails counts as the end: how many bytes came.
+pub fn read_what_comes<R: Read>(from: &mut R, buf: &mut [u8]) -> usize
+    ensures upper_bound { result ≤ length buf.new }
+    ensures bytes { Consumes (R.remaining from.old) (R.remaining from.new) (take result buf.new) }
+{
+    match read_full(from, buf) {
+        Ok(n) => n,
+        Err(Cut(n)) => n,
+    }
+}

@@ -1,32 +1,32 @@
 -- What an operation on a ghost list by itself comes to, and what it answers, by the rules (RULES 3).
 -- Assumes nothing.
-use Rattle.std.specs.Prelude.{◌≡◌, Bool, true, false, cond, List, ℕ, eqb, ltb, length}
-use Rattle.std.proofs.Math.Option.{Option, none, some}
+use Rattle.std.specs.Prelude.{◌≡◌, Bool, cond, List, ℕ, eqb, ltb, length, Some, None}
+use Rattle.std.specs.Prelude.{Option as Maybe}
+use Rattle.std.proofs.Math.Option.{Option}
 use Rattle.cells.specs.Cells.{le}
 use Rattle.nodes.specs.declared.Shape.{Shape}
 use Rattle.rules.specs.State.{Limits, State, set_ghosts, empty_at}
 use Rattle.rules.specs.Ghosts.{record_ghost, remove_ghost, evict_lru, clear_ghosts}
 use Rattle.store.specs.Holds.{state_in, Becomes}
-use Rattle.ghost_list.specs.Ghosts.{GhostsAlone}
+use Rattle.ghost_list.specs.Ghosts.{given_of, GhostsAlone}
 use Rattle.ghosts.specs.declared.Operation.{Operation}
 use Rattle.ghosts.specs.declared.Operation.TheVariants.{Record, Remove, Oldest, Clear}
 use Rattle.ghosts.specs.declared.Wanted.{Wanted}
-use Rattle.ghosts.specs.declared.Wanted.TheVariants.{New, Of, Bad}
+use Rattle.ghosts.specs.declared.Wanted.TheVariants.{New, Of}
 use Rattle.ghosts.specs.declared.Answer.{Answer}
-use Rattle.ghosts.specs.declared.Answer.TheVariants.{Dropped, Nothing, There, NotThere, Cleared}
-use Rattle.ghosts.specs.declared.Stage.{Stage}
-use Rattle.ghosts.specs.declared.Stage.TheVariants.{Before, Open, Over}
+use Rattle.ghosts.specs.declared.Answer.TheVariants.{Dropped, Was, Cleared}
 
--- what a record asks for by its letter, one of N, R, D, E and C, and its number
-abbrev pub wants_of : ℕ → ℕ → Wanted
+-- what a record asks for by its letter, one of N, R, D, E and C, and its number; another letter asks for nothing
+abbrev pub wants_of : ℕ → ℕ → Maybe Wanted
 wants_of letter n =
-    cond (eqb letter 78) (New n)
-    (cond (eqb letter 82) (Of (Record (record { 0 = n })))
-    (cond (eqb letter 68) (Of (Remove (record { 0 = n }))) (cond (eqb letter 69) (Of Oldest) (cond (eqb letter 67) (Of Clear) Bad))))
+    cond (eqb letter 78) (Some (New n))
+    (cond (eqb letter 82) (Some (Of (Record (record { 0 = n }))))
+    (cond (eqb letter 68) (Some (Of (Remove (record { 0 = n }))))
+    (cond (eqb letter 69) (Some (Of Oldest)) (cond (eqb letter 67) (Some (Of Clear)) None))))
 
--- a record is a letter and a number; one that is cut short is bad
-abbrev pub wanted_in : List ℕ → Wanted
-wanted_in s = cond (ltb (length s) 9) Bad (wants_of (le 1 s 0) (le 8 s 1))
+-- a record is a letter and a number; one that is cut short asks for nothing
+abbrev pub wanted_in : List ℕ → Maybe Wanted
+wanted_in s = cond (ltb (length s) 9) None (wants_of (le 1 s 0) (le 8 s 1))
 
 -- what an operation answers: the key that it gives back, whether a key was there, or no more than that it is done
 pub data Reported : Type 0 where
@@ -36,10 +36,8 @@ pub data Reported : Type 0 where
 
 -- the program's answer
 abbrev pub answer_of : Answer → Reported
-answer_of (Dropped k) = gave_back (some k.0)
-answer_of Nothing = gave_back none
-answer_of There = was_there true
-answer_of NotThere = was_there false
+answer_of (Dropped k) = gave_back (given_of k)
+answer_of (Was b) = was_there b
 answer_of Cleared = is_done
 
 -- the ghosts of a state after an operation
@@ -70,9 +68,3 @@ limits_alone n = record { capacity = 1; small_limit = 0; ghost_limit = n }
 pub record Opened (s : List ℕ) (n : ℕ) (z : Shape) : Type 0 where
   pub alone : GhostsAlone z s
   pub state : state_in z s ≡ empty_at (limits_alone n)
-
--- while a list is open the store has it
-abbrev pub Staged : Stage → List ℕ → Type 0
-Staged Before s = Unit {0}
-Staged (Open z) s = GhostsAlone z s
-Staged Over s = Unit {0}

@@ -5,15 +5,15 @@
 // there is no list, that is said, and the run is over.
 #![tactic(auto)]
 
-ghost use Rattle.std.specs.Prelude.{◌≤◌, ◌≡◌, length};
+ghost use Rattle.std.specs.Prelude.{◌≤◌, ◌≡◌, length, IfSome, IfOk};
 ghost use Rattle.rules.specs.State.{most};
 ghost use Rattle.rules.specs.Refusals.{store_bytes};
-ghost use Rattle.ghost_list.specs.Ghosts.{GhostsAlone, given_of};
-ghost use Rattle.ghosts.specs.Operations.{wants_of, wanted_in, gave_back, was_there, answer_of, Opened, Taken, Staged};
+ghost use Rattle.ghost_list.specs.Ghosts.{GhostsAlone};
+ghost use Rattle.ghosts.specs.Operations.{wants_of, wanted_in, Opened, Taken};
 
-use ghost_list::Given;
 use rules::GuestBlock;
 use sizing::Limits;
+use std::fmt;
 use store::Shape;
 
 // A letter and a number.
@@ -33,40 +33,36 @@ enum Operation {
 enum Wanted {
     New(u64),
     Of(Operation),
-    Bad,
 }
 
-// What an operation answered.
+// What an operation answered: a key if it dropped one, whether a key was there, or no more than that it is done.
 #[derive(Clone, Copy)]
 enum Answer {
-    Dropped(GuestBlock),
-    Nothing,
-    There,
-    NotThere,
+    Dropped(Option<GuestBlock>),
+    Was(bool),
     Cleared,
 }
 
-// Where the run is: no list yet, a list in a store of this shape, or past a bad record.
-#[derive(Clone, Copy)]
-enum Stage {
-    Before,
-    Open(Shape),
-    Over,
-}
-
-fn answer_given(given: Given) -> Answer
-    ensures { answer_of result ≡ gave_back (given_of given) }
-{
-    match given {
-        Given::Key(k) => Answer::Dropped(k),
-        Given::Nothing => Answer::Nothing,
+impl fmt::Display for Answer {
+    fn fmt<W: fmt::Write>(&self, f: &mut fmt::Formatter<W>) -> fmt::Result {
+        match *self {
+            Answer::Dropped(Some(GuestBlock(k))) => write!(f, "dropped {k}"),
+            Answer::Dropped(None) => write!(f, "nothing"),
+            Answer::Was(true) => write!(f, "was there"),
+            Answer::Was(false) => write!(f, "was not there"),
+            Answer::Cleared => write!(f, "cleared"),
+        }
     }
 }
 
-fn answer_was(was: bool) -> Answer
-    ensures { answer_of result ≡ was_there was }
-{
-    if was { Answer::There } else { Answer::NotThere }
+// A record at which the run is over.
+#[derive(Clone, Copy)]
+struct BadRecord;
+
+impl fmt::Display for BadRecord {
+    fn fmt<W: fmt::Write>(&self, f: &mut fmt::Formatter<W>) -> fmt::Result {
+        write!(f, "bad record")
+    }
 }
 
 // A new and empty list, which is a store whose capacity no resident takes up.
@@ -89,18 +85,9 @@ fn take(s: &mut [u8], z: Shape, o: Operation) -> Answer
     ensures { Taken z s.old s.new o result }
 {
     match o {
-        Operation::Record(k) => {
-            let given = ghost_list::record(s, z, k);
-            answer_given(given)
-        }
-        Operation::Remove(k) => {
-            let was = ghost_list::remove(s, z, k);
-            answer_was(was)
-        }
-        Operation::Oldest => {
-            let given = ghost_list::evict_lru(s, z);
-            answer_given(given)
-        }
+        Operation::Record(k) => Answer::Dropped(ghost_list::record(s, z, k)),
+        Operation::Remove(k) => Answer::Was(ghost_list::remove(s, z, k)),
+        Operation::Oldest => Answer::Dropped(ghost_list::evict_lru(s, z)),
         Operation::Clear => {
             ghost_list::clear(s, z);
             Answer::Cleared
@@ -108,139 +95,85 @@ fn take(s: &mut [u8], z: Shape, o: Operation) -> Answer
     }
 }
 
-// What a letter with its number asks for.
-fn wanted_by(letter: u8, n: u64) -> Wanted
+// What a letter with its number asks for, if it is one of the five.
+fn wanted_by(letter: u8, n: u64) -> Option<Wanted>
     ensures { result ≡ wants_of letter n }
 {
     match letter {
-        b'N' => Wanted::New(n),
-        b'R' => Wanted::Of(Operation::Record(GuestBlock(n))),
-        b'D' => Wanted::Of(Operation::Remove(GuestBlock(n))),
-        b'E' => Wanted::Of(Operation::Oldest),
-        b'C' => Wanted::Of(Operation::Clear),
-        _ => Wanted::Bad,
+        b'N' => Some(Wanted::New(n)),
+        b'R' => Some(Wanted::Of(Operation::Record(GuestBlock(n)))),
+        b'D' => Some(Wanted::Of(Operation::Remove(GuestBlock(n)))),
+        b'E' => Some(Wanted::Of(Operation::Oldest)),
+        b'C' => Some(Wanted::Of(Operation::Clear)),
+        _ => None,
     }
 }
 
-// What a record asks for; one that is cut short is bad.
-fn read(bytes: &[u8]) -> Wanted
+// What a record asks for; one that is cut short asks for nothing.
+fn read(bytes: &[u8]) -> Option<Wanted>
     ensures { result ≡ wanted_in bytes.now }
 {
     if bytes.len() < RECORD_BYTES {
-        return Wanted::Bad;
+        return None;
     }
     wanted_by(cells::get8(bytes, 0), cells::get64(bytes, 1))
 }
 
 // A line that cannot be written is left out, and the run goes on.
-fn line(rt: &impl Print, label: &[u8]) {
-    let _ = rt.write_all(label);
-    let _ = rt.write_all(b"\n");
-}
-
-fn numbered(rt: &impl Print, label: &[u8], n: u64) {
-    let _ = rt.write_all(label);
-    let _ = println!(rt; "{n}");
-}
-
-fn tell(rt: &impl Print, answer: Answer) {
-    match answer {
-        Answer::Dropped(k) => numbered(rt, b"dropped ", k.0),
-        Answer::Nothing => line(rt, b"nothing"),
-        Answer::There => line(rt, b"was there"),
-        Answer::NotThere => line(rt, b"was not there"),
-        Answer::Cleared => line(rt, b"cleared"),
-    }
-}
-
-// Says that a record is bad; the run is over.
-fn refuse(rt: &impl Print) -> Stage
-    ensures { result ≡ Stage.Over }
-{
-    line(rt, b"bad record");
-    Stage::Over
+fn say(rt: &impl Print, line: impl fmt::Display + Drop) {
+    let _ = rt.println(line);
 }
 
 // A new list, whatever stood in the store before.
-fn open(rt: &impl Print, s: &mut [u8], limit: u64) -> Stage
+fn open(rt: &impl Print, s: &mut [u8], limit: u64) -> Result<Shape, BadRecord>
     requires { store_bytes ≤ length s.old }
-    ensures { Staged result s.new }
+    ensures { IfOk result (λ z. GhostsAlone z s.new) }
 {
     if rules::MOST < limit {
-        return refuse(rt);
+        return Err(BadRecord);
     }
     let z = begin(s, limit);
-    numbered(rt, b"new ", limit);
-    Stage::Open(z)
+    say(rt, format_args!("new {limit}"));
+    Ok(z)
 }
 
-// The first record: only a new list will do.
-fn first(rt: &impl Print, s: &mut [u8], wanted: Wanted) -> Stage
-    requires { store_bytes ≤ length s.old }
-    ensures { Staged result s.new }
+// One record, on the list if there is one: only a new one will do where there is none.
+fn turn(
+    rt: &impl Print,
+    s: &mut [u8],
+    list: Option<Shape>,
+    record: &[u8],
+) -> Result<Shape, BadRecord>
+    requires { (store_bytes ≤ length s.old) × IfSome list (λ z. GhostsAlone z s.old) }
+    ensures { IfOk result (λ z. GhostsAlone z s.new) }
 {
-    match wanted {
-        Wanted::New(limit) => open(rt, s, limit),
-        Wanted::Of(_) => refuse(rt),
-        Wanted::Bad => refuse(rt),
-    }
-}
-
-// A record on a list.
-fn next(rt: &impl Print, s: &mut [u8], z: Shape, wanted: Wanted) -> Stage
-    requires { (store_bytes ≤ length s.old) × GhostsAlone z s.old }
-    ensures { Staged result s.new }
-{
-    match wanted {
+    match read(record).ok_or(BadRecord)? {
         Wanted::New(limit) => open(rt, s, limit),
         Wanted::Of(o) => {
-            tell(rt, take(s, z, o));
-            Stage::Open(z)
+            let z = list.ok_or(BadRecord)?;
+            say(rt, take(s, z, o));
+            Ok(z)
         }
-        Wanted::Bad => refuse(rt),
     }
 }
 
-// One record, wherever the run is.
-fn turn(rt: &impl Print, s: &mut [u8], stage: Stage, record: &[u8]) -> Stage
-    requires { (store_bytes ≤ length s.old) × Staged stage s.old }
-    ensures { Staged result s.new }
-{
-    match stage {
-        Stage::Before => first(rt, s, read(record)),
-        Stage::Open(z) => next(rt, s, z, read(record)),
-        Stage::Over => Stage::Over,
-    }
-}
-
-// All whole records.
-fn turns(rt: &impl Print, s: &mut [u8], input: &[u8]) -> Stage
+// All records, the last of which may be cut; and the list that they leave.
+fn turns(rt: &impl Print, s: &mut [u8], input: &[u8]) -> Result<Option<Shape>, BadRecord>
     requires { store_bytes ≤ length s.old }
-    ensures { Staged result s.new }
+    ensures { IfOk result (λ o. IfSome o (λ z. GhostsAlone z s.new)) }
 {
-    let mut stage = Stage::Before;
-    let mut at = 0;
-    while RECORD_BYTES <= input.len() - at {
-        stage = turn(rt, s, stage, &input[at..at + RECORD_BYTES]);
-        at += RECORD_BYTES;
+    let mut list = None;
+    for record in input.chunks(RECORD_BYTES) {
+        list = Some(turn(rt, s, list, record)?);
     }
-    stage
-}
-
-// All records, and what is left after the whole ones.
-fn run(rt: &impl Print, s: &mut [u8], input: &[u8])
-    requires { store_bytes ≤ length s.old }
-{
-    let stage = turns(rt, s, input);
-    let rest = input.len() % RECORD_BYTES;
-    if 0 < rest {
-        turn(rt, s, stage, &input[input.len() - rest..]);
-    }
+    Ok(list)
 }
 
 fn main(rt: HostRuntime) {
-    let mut store = intake::large_buffer();
-    let mut input = intake::large_buffer();
-    let n = intake::read_full(&mut rt.stdin(), &mut input);
-    run(&rt, &mut store, &input[..n]);
+    let mut store = intake::zeros::<{ intake::LARGE_BYTES }>();
+    let mut input = intake::zeros::<{ intake::LARGE_BYTES }>();
+    let n = intake::read_what_comes(&mut rt.stdin(), &mut input);
+    if let Err(bad) = turns(&rt, &mut store, &input[..n]) {
+        say(&rt, bad);
+    }
 }

@@ -4,8 +4,8 @@ use Rattle.ghost_list.proofs.HeldLaws.{alone-keyed}
 use Rattle.ghosts.proofs.OperationsLaws.{takes_record, takes_remove, takes_oldest}
 use Rattle.ghosts.proofs.take.Goals as goal
 
-pub record-given-requires : goal.record-given-requires
-record-given-requires c = search (rules, alone-keyed)
+pub record-requires : goal.record-requires
+record-requires c = search (rules, alone-keyed)
 
 pub returns-in-Record : goal.returns-in-Record
 returns-in-Record c = search (rules, takes_record)

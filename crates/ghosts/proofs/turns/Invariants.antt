@@ -1,12 +1,9 @@
--- `ghosts::turns` meets its contract: the measure is what is left of the input.
-use Prim.Native.Nat.{◌≤◌, ◌-◌}
+-- `ghosts::turns` meets its contract: the list that there is stands in the store.
 use mathlib.Core.Path.{◌≡◌}
 use lib.ListN.{length}
-use Rattle.ghosts.specs.Operations.{Staged}
+use Rattle.std.specs.Prelude.{IfSome}
+use Rattle.ghost_list.specs.Ghosts.{GhostsAlone}
 use Rattle.ghosts.proofs.turns.Given as goal
 
-abbrev pub invariant-loop-at : goal.invariant-loop-at
-invariant-loop-at g l = (l.at ≤ length l.input) × (length l.s ≡ length l.initial.s) × Staged l.stage l.s
-
-abbrev pub decreases-loop-at : goal.decreases-loop-at
-decreases-loop-at g l = length l.input - l.at
+abbrev pub invariant-loop-record : goal.invariant-loop-record
+invariant-loop-record g l = (length l.s ≡ length l.initial.s) × IfSome l.list (λ z. GhostsAlone z l.s)

@@ -9,6 +9,7 @@ use native.Mathlib.Nat.{zero-add}
 use lib.Dec.{leb, leb→le}
 use lib.ListN.{length, get_or, take, drop, length-drop}
 use lib.Seq.{take_all}
+use Rattle.std.specs.Prelude.{Option, Some, Result, Ok, Err}
 use Rattle.cells.specs.Cells.{put_le}
 use Rattle.rules.specs.State.{State}
 use Rattle.rules.specs.Bytes.{mark, marks, bytes_of}
@@ -19,18 +20,12 @@ use Rattle.rules.proofs.TripLaws.{bytes-length}
 use Rattle.sizing.specs.declared.Settings.{Settings}
 use Rattle.rules.specs.declared.Turned.{Turned}
 use Rattle.rules.specs.Refusals.{number_of, detail_of}
-use Rattle.sizing.specs.declared.Read.{Read}
-use Rattle.sizing.specs.declared.Read.TheVariants.{Asked as Asked·, Bad}
 use Rattle.sizing.specs.Answers.{asks_of, asked_of}
 use Rattle.wire.specs.Wire.{splice, Wrote}
 use Rattle.wire.proofs.SpliceLaws.{put-splice, wrote-wrote, wrote-length}
-use Rattle.s3_fifo.specs.declared.Creation.{Creation}
-use Rattle.s3_fifo.specs.declared.Creation.TheVariants.{Made, Refused}
-use Rattle.s3_fifo.specs.declared.Ran.{Ran}
-use Rattle.s3_fifo.specs.declared.Ran.TheVariants.{Done, Refused as NotRun}
 use Rattle.s3_fifo.specs.Calls.{Said, gave, turned, created_says, ran_says, Settled, Follows, Created, Called}
 use Rattle.s3_fifo.proofs.OnceLaws.{reads-once}
-use Rattle.replay.specs.Output.{no_record, no_bytes, printed, output_for, Finished}
+use Rattle.replay.specs.Output.{no_record, no_bytes, printed, output_for, Leaves, Answered}
 
 -- ---- the record of a refusal
 
@@ -54,34 +49,41 @@ unfolding bytes_of
 refusal_wrote {p} n d h e₁ e₂ e₃ e₄ =
     number-wrote 8 d (number-wrote 1 n (number-wrote 1 79 (number-wrote 1 78 (nothing-wrote p) e₁ (omega arith)) e₂ (omega arith)) e₃ (omega arith)) e₄ h
 
--- its number and detail by what they are equal to
-pub record-as : {p p' : List ℕ} {r n d m e : ℕ} → Wrote p 0 (no_record n d) p' r → n ≡ m → d ≡ e → Wrote p 0 (no_record m e) p' r
-record-as w en ed = rw (← en, ← ed) w
+-- ---- what an answer comes to
 
--- ---- what a call leaves
+-- the record of a refusal, where nothing was written before
+leaves-refused : (v : Verdict State) (n d : ℕ) (p p' p'' : List ℕ) (r : ℕ) → Leaves v (turned n d) p p' → Wrote p' 0 (no_record n d) p'' r
+    → Wrote p 0 (printed v) p'' r
+leaves-refused (refused m e) n d p p' p'' r l w =
+    let h = l.0 in let a : n ≡ m = cc in let b : d ≡ e = cc in
+    rw (← a, ← b) (subst (λ (x : List ℕ). Wrote x 0 (no_record n d) p'' r) l.1 w)
+leaves-refused (done σ bs) n d p p' p'' r l w = let h = l.0 in let z : ◌≡◌ {A = ℕ} 0 1 = cc in absurd (omega arith)
 
-finish-shown : (v : Verdict State) (a : Said) (s s' p p' p'' : List ℕ) (r : ℕ) → Follows v a s s' p p' → Finished a p' p'' r → Wrote p 0 (printed v) p'' r
+-- and replies as they stand
+leaves-gave : (v : Verdict State) (n : ℕ) (p p' : List ℕ) → Leaves v (gave n) p p' → Wrote p 0 (printed v) p' n
 unfolding splice
-finish-shown (refused n d) a s s' p p' p'' r l f =
-    let f' : Finished (turned n d) p' p'' r = subst (λ (x : Said). Finished x p' p'' r) l.0 f in
-    subst (λ (x : List ℕ). Wrote x 0 (no_record n d) p'' r) l.2 f'
-finish-shown (done σ bs) a s s' p p' p'' r l f =
-    let f' : Finished (gave (length bs)) p' p'' r = subst (λ (x : Said). Finished x p' p'' r) l.0 f in
-    record { bytes = f'.1 ∙ l.2 ∙ ap (λ (k : ℕ). bs ++ drop k p) (sym (zero-add (length bs))); end = f'.0 ∙ sym (zero-add (length bs)) }
+leaves-gave (refused m e) n p p' l = let h = l.0 in let z : ◌≡◌ {A = ℕ} 0 1 = cc in absurd (omega arith)
+leaves-gave (done σ bs) n p p' l =
+    let h = l.0 in let e : n ≡ length bs = cc in
+    record { bytes = l.1 ∙ ap (λ (k : ℕ). bs ++ drop k p) (sym (zero-add (length bs))); end = e ∙ sym (zero-add (length bs)) }
 
--- a refused call's record, and an accepted one's replies as they stand
-pub finished-refused : {ran : Ran} {t : Turned} {p p' : List ℕ} {r : ℕ} → ran ≡ NotRun t → Wrote p 0 (no_record (number_of t) (detail_of t)) p' r
-    → Finished (ran_says ran) p p' r
-finished-refused e w = rw e w
+abbrev verdict_on : List ℕ → List ℕ → Verdict State
+verdict_on s p = on_asked (settings_of s) (drop settings_bytes s) (length p)
 
-pub finished-done : {ran : Ran} {n : ℕ} (p : List ℕ) → ran ≡ Done n → Finished (ran_says ran) p p n
-finished-done p e = rw e (refl, refl)
+module _ (s p : List ℕ) {a : Result ℕ Turned} {p' : List ℕ} (l : Answered (verdict_on s p) (ran_says a) p p') where
+  as-said : {b : Result ℕ Turned} → a ≡ b → Answered (verdict_on s p) (ran_says b) p p'
+  as-said e = subst (λ (x : Result ℕ Turned). Answered (verdict_on s p) (ran_says x) p p') e l
+
+  pub reply_refused : {t : Turned} {p'' : List ℕ} {r : ℕ} → a ≡ Err t → Wrote p' 0 (no_record (number_of t) (detail_of t)) p'' r
+      → Wrote p 0 (output_for s (length p)) p'' r
+  unfolding output_for
+  reply_refused {t} {p''} {r} e w = leaves-refused (verdict_on s p) (number_of t) (detail_of t) p p' p'' r (as-said e).leaves w
+
+  pub reply_gave : {n : ℕ} → a ≡ Ok n → Wrote p 0 (output_for s (length p)) p' n
+  unfolding output_for
+  reply_gave {n} e = leaves-gave (verdict_on s p) n p p' (as-said e).leaves
 
 -- ---- what a creation leaves
-
-turned-refused : (v : Verdict State) (n d : ℕ) (s s' p p' : List ℕ) → Follows v (turned n d) s s' p p' → v ≡ refused n d
-turned-refused (refused m e) n d s s' p p' l = let h = l.0 in cc
-turned-refused (done σ bs) n d s s' p p' l = let h = l.0 in let z : ◌≡◌ {A = ℕ} 0 1 = cc in absurd (omega arith)
 
 -- the state that was set up, and that the store holds it
 record MadeOf (v : Verdict State) (s s' : List ℕ) : Type 0 where
@@ -94,30 +96,31 @@ gave-done : (v : Verdict State) (n : ℕ) (s s' p p' : List ℕ) → Follows v (
 gave-done (refused m e) n s s' p p' l = let h = l.0 in let z : ◌≡◌ {A = ℕ} 0 1 = cc in absurd (omega arith)
 gave-done (done σ bs) n s s' p p' l = record { state = σ; nothing = bs; is = refl; settled = l.1 }
 
-module _ {settings : Settings} {s s' : List ℕ} {created : Creation} (long : store_bytes ≡ length s) (c : Created settings s created s') where
+-- the replies alone
+leaves-as : (v : Verdict State) (a : Said) (s s' p p' : List ℕ) → Follows v a s s' p p' → Leaves v a p p'
+leaves-as (refused n d) a s s' p p' l = (l.0, l.2)
+leaves-as (done σ bs) a s s' p p' l = (l.0, l.2)
+
+module _ {settings : Settings} {s s' : List ℕ} {created : Result Unit Turned} (long : store_bytes ≡ length s) (c : Created settings s created s') where
   abbrev creation : Verdict State
   creation = create settings.capacity settings.small_ratio settings.ghost_ratio store_bytes
 
-  left_as : (q : Creation) → created ≡ q → Follows creation (created_says q) s s' [] []
+  left_as : (q : Result Unit Turned) → created ≡ q → Follows creation (created_says q) s s' [] []
   left_as q e = rw (← long, e) at c.leaves
 
-  output_is : {v : Verdict State} → creation ≡ v → (q p : List ℕ) {p' : List ℕ} {r : ℕ}
-      → Wrote p 0 (printed (on_created v q (length p))) p' r → Wrote p 0 (printed (on_asked (asks_of settings) q (length p))) p' r
-  output_is e q p {p'} {r} w = subst (λ (x : Verdict State). Wrote p 0 (printed (on_created x q (length p))) p' r) (sym e) w
+  output_is : {v : Verdict State} (q : List ℕ) {p p' : List ℕ} {a : Said} → creation ≡ v → Answered (on_created v q (length p)) a p p'
+      → Answered (on_asked (asks_of settings) q (length p)) a p p'
+  output_is {v} q {p} {p'} {a} e l = subst (λ (x : Verdict State). Answered (on_created x q (length p)) a p p') (sym e) l
 
-  pub run-refused : {t : Turned} {r : ℕ} {p' : List ℕ} (q p : List ℕ) → created ≡ Refused t
-      → Wrote p 0 (no_record (number_of t) (detail_of t)) p' r → Wrote p 0 (printed (on_asked (asks_of settings) q (length p))) p' r
-  run-refused {t} q p e w = output_is (turned-refused creation (number_of t) (detail_of t) s s' [] [] (left_as (Refused t) e)) q p w
-
-  pub run-made : {s'' q p p' p'' : List ℕ} {ran : Ran} {r : ℕ} → created ≡ Made → Called s' q p ran s'' p' → Finished (ran_says ran) p' p'' r
-      → Wrote p 0 (printed (on_asked (asks_of settings) q (length p))) p'' r
-  run-made {s''} {q} {p} {p'} {p''} {ran} {r} e d f =
-      let u = gave-done creation 0 s s' [] [] (left_as Made e) in
+  pub run-made : {x : Unit} {s'' q p p' : List ℕ} {ran : Result ℕ Turned} → created ≡ Ok x → Called s' q p ran s'' p'
+      → Answered (on_asked (asks_of settings) q (length p)) (ran_says ran) p p'
+  run-made {x} {s''} {q} {p} {p'} {ran} e d =
+      let u = gave-done creation 0 s s' [] [] (left_as (Ok x) e) in
       let known : d.store ≡ reads u.state =
       reads-once s' d.store (reads u.state) d.store_is (omega (arith, long, u.settled.same_length), u.settled.holds) in
       let l : Follows (call (reads u.state) q (length p)) (ran_says ran) s' s'' p p' =
-      subst (λ (x : Reads). Follows (call x q (length p)) (ran_says ran) s' s'' p p') known d.leaves in
-      output_is u.is q p (finish-shown (call (reads u.state) q (length p)) (ran_says ran) s' s'' p p' p'' r l f)
+      subst (λ (y : Reads). Follows (call y q (length p)) (ran_says ran) s' s'' p p') known d.leaves in
+      output_is q u.is (record { leaves = leaves-as (call (reads u.state) q (length p)) (ran_says ran) s' s'' p p' l })
 
 -- ---- the settings in front
 
@@ -134,13 +137,8 @@ unfolding settings_of
 asks-long s x e h =
     long-by s (leb settings_bytes (length s)) (marks (get_or s 0 0) (get_or s 1 0) (mark 67 70)) refl (settings_at s 2) (subst Asks (sym e) h)
 
-module _ (s : List ℕ) {read : Read} (e : asked_of read ≡ settings_of s) where
-  pub reply_bad : {p p' : List ℕ} {r : ℕ} → read ≡ Bad → Wrote p 0 (no_record 9 0) p' r → Wrote p 0 (output_for s (length p)) p' r
-  unfolding output_for
-  reply_bad {p} {p'} {r} h w =
-      subst (λ (a : Asked). Wrote p 0 (printed (on_asked a (drop settings_bytes s) (length p))) p' r) (sym (ap asked_of h) ∙ e) w
-
-  module _ {settings : Settings} (h : read ≡ Asked· settings) where
+module _ (s : List ℕ) {read : Option Settings} (e : asked_of read ≡ settings_of s) where
+  module _ {settings : Settings} (h : read ≡ Some settings) where
     asked_is : asks_of settings ≡ settings_of s
     asked_is = sym (ap asked_of h) ∙ e
 
@@ -150,10 +148,9 @@ module _ (s : List ℕ) {read : Read} (e : asked_of read ≡ settings_of s) wher
     rest : take (length s - settings_bytes) (drop settings_bytes s) ≡ drop settings_bytes s
     rest = take_all (length s - settings_bytes) (drop settings_bytes s) (simp length-drop (omega arith))
 
-    pub reply_asked : {p p' : List ℕ} {r : ℕ}
-        → Wrote p 0 (printed (on_asked (asks_of settings) (take (length s - settings_bytes) (drop settings_bytes s)) (length p))) p' r
-        → Wrote p 0 (output_for s (length p)) p' r
-    unfolding output_for
-    reply_asked {p} {p'} {r} w =
-        let w' = subst (λ (q : List ℕ). Wrote p 0 (printed (on_asked (asks_of settings) q (length p))) p' r) rest w in
-        subst (λ (a : Asked). Wrote p 0 (printed (on_asked a (drop settings_bytes s) (length p))) p' r) asked_is w'
+    pub reply_asked : {p p' : List ℕ} {a : Said}
+        → Answered (on_asked (asks_of settings) (take (length s - settings_bytes) (drop settings_bytes s)) (length p)) a p p'
+        → Answered (on_asked (settings_of s) (drop settings_bytes s) (length p)) a p p'
+    reply_asked {p} {p'} {a} l =
+        let l' = subst (λ (q : List ℕ). Answered (on_asked (asks_of settings) q (length p)) a p p') rest l in
+        subst (λ (x : Asked). Answered (on_asked x (drop settings_bytes s) (length p)) a p p') asked_is l'

@@ -1,18 +1,20 @@
 -- What the program writes is what the rules say of all its input, though it looks at no more than its first part; and it fits.
 -- Assumes nothing.
-use mathlib.Core.Path.{◌≡◌, refl, sym, ap, ◌∙◌}
+use mathlib.Core.Path.{◌≡◌, refl, sym, ap, subst, ◌∙◌}
 use mathlib.Core.Bool.{Bool, true, false}
-use mathlib.Core.List.{List}
-use Prim.Native.Nat.{ℕ, ◌+◌, ◌-◌, ◌≤◌, ◌<◌}
-use native.Mathlib.Nat.{sub-zero}
+use mathlib.Core.List.{List, [], ◌++◌, append-nil}
+use Prim.Native.Nat.{ℕ, ◌+◌, ◌≤◌, ◌<◌}
+use native.Mathlib.Decide.{dec_le}
 use native.Mathlib.Omega.{arith}
 use mir.Val.{Fits as Fits·}
 use mir.Syntax.{w8}
 use lib.Dec.{leb}
 use lib.Ieee.{Float}
 use lib.ListN.{length, get_or, take, drop, length-take, length-drop}
-use lib.Seq.{take_all, get_or-take, get_or-drop}
+use lib.Seq.{take_all, take-append-le, get_or-take, get_or-drop}
 use borrow.Author.Tests.{lt-ltb, le-leb, leb-true, leb-false}
+use Rattle.std.specs.Prelude.{Option, Some, None, IfSome}
+use Rattle.std.specs.Io.KnownBytes.{Consumes, IsAtEnd}
 use Rattle.cells.specs.Cells.{le, Bytes}
 use Rattle.cells.proofs.Laws.{le_ext}
 use Rattle.rules.specs.State.{State, Sound}
@@ -22,7 +24,6 @@ use Rattle.rules.specs.Sizing.{Sized, limits, refused as misfit, sizing}
 use Rattle.rules.specs.Refusals.{store_bytes, most_request_bytes}
 use Rattle.rules.specs.declared.Turned.TheVariants.{LongRequests}
 use Rattle.rules.specs.Verdict.{Verdict, refused, done, turned_away, on_sized, create, reads, call, FitsRoom, on_created, on_asked}
-use Rattle.rules.proofs.ByteLaws.{bytes_take}
 use Rattle.rules.proofs.SoundLaws.{empty-sound}
 use Rattle.rules.proofs.VerdictLaws.{call_fits}
 use Rattle.sizing.proofs.AcceptedLaws.{accepted-fine}
@@ -132,14 +133,38 @@ written-fits s b = rw (written-whole s) (output_fits s reply_room b (omega arith
 
 -- ---- what the code does: of what was read nothing is cut off
 
--- the part from 0 to n is taken as n - 0 bytes
-module _ (s p : List ℕ) (n : ℕ) {p' : List ℕ} {r : ℕ} (a : most_input ≡ length s) (b : n ≤ length s) (c : reply_room ≡ length p)
-    (w : Wrote p 0 (output_for (take (n - 0) s) (length p)) p' r) where
-  pub reply_read : Wrote p 0 (written_for (take n s)) p' r
-  reply_read = rw (within-most (take n s) (rw (length-take n s) (omega arith))) (rw (sub-zero n, ← c) at w)
+module _ (s p : List ℕ) {p' : List ℕ} {r : ℕ} (a : length s ≤ most_input) (c : reply_room ≡ length p) (w : Wrote p 0 (output_for s (length p)) p' r) where
+  pub reply_read : Wrote p 0 (written_for s) p' r
+  reply_read = rw (within-most s a) (rw (← c) at w)
 
   pub reply_fits : ((k : ℕ) → Fits· w8 (get_or s k 0)) → r ≤ length p'
   reply_fits f =
       let d = reply_read in
-      let l = written-fits (take n s) (bytes_take n s (λ k. (f k).fits)) in
+      let l = written-fits s (λ k. (f k).fits) in
       omega (arith, d.end, wrote-length d (omega arith))
+
+-- ---- and what the reader gives beyond what was read makes no difference
+
+beyond-read : (t ys : List ℕ) → most_input ≤ length t → written_for t ≡ written_for (t ++ ys)
+unfolding written_for
+beyond-read t ys h = ap (λ (x : List ℕ). output_for x reply_room) (sym (take-append-le most_input t ys h))
+
+all_read : (t ys : List ℕ) → (length t < most_input → ys ≡ []) → Dec (most_input ≤ length t) → written_for t ≡ written_for (t ++ ys)
+all_read t ys e (yes h) = beyond-read t ys h
+all_read t ys e (no n) = ap written_for (sym (append-nil t) ∙ ap (λ (x : List ℕ). t ++ x) (sym (e (omega arith))))
+
+-- t was read, and all of the input where it is short
+answers_all : {p p' : List ℕ} {r : ℕ} (a b : Option (List ℕ)) (t : List ℕ) → Consumes a b t → (length t < most_input → IsAtEnd b)
+    → Wrote p 0 (written_for t) p' r → IfSome a (λ xs. Wrote p 0 (written_for xs) p' r)
+answers_all None b t c e w = tt
+answers_all (Some xs) None t c e w = absurd c
+answers_all {p} {p'} {r} (Some xs) (Some ys) t c e w =
+    subst (λ (l : List ℕ). Wrote p 0 l p' r) (all_read t ys e (dec_le most_input (length t)) ∙ ap written_for (sym c)) w
+
+-- t is the first n bytes of a buffer
+pub answers_read : {p p' : List ℕ} {r : ℕ} (a b : Option (List ℕ)) (buf : List ℕ) (n : ℕ) → most_input ≡ length buf → n ≤ length buf
+    → Consumes a b (take n buf) → (n < length buf → IsAtEnd b) → Wrote p 0 (written_for (take n buf)) p' r
+    → IfSome a (λ xs. Wrote p 0 (written_for xs) p' r)
+answers_read a b buf n l h c e w =
+    let k : length (take n buf) ≡ n = rw (length-take n buf) (omega arith) in
+    answers_all a b (take n buf) c (λ q. e (omega arith)) w

@@ -1,13 +1,12 @@
 -- What the program writes for what it reads (RULES 9): the verdict on its input, and the verdict as bytes.
 -- Assumes nothing.
-use Rattle.std.specs.Prelude.{◌≡◌, List, ◌++◌, ℕ, ◌+◌, take, drop}
+use Rattle.std.specs.Prelude.{◌≡◌, List, ◌++◌, ℕ, ◌+◌, length, take, drop}
 use Rattle.rules.specs.Bytes.{mark, bytes_of}
 use Rattle.rules.specs.Sizing.{settings_bytes, settings_of}
 use Rattle.rules.specs.State.{State}
 use Rattle.rules.specs.Refusals.{most_request_bytes}
 use Rattle.rules.specs.Verdict.{Verdict, refused, done, create, call, on_asked}
-use Rattle.wire.specs.Wire.{Wrote}
-use Rattle.s3_fifo.specs.Calls.{Said, gave, halted, turned}
+use Rattle.s3_fifo.specs.Calls.{Said, gave, turned}
 
 -- the record of a refusal: NO, the number in one byte, the detail in 8
 abbrev pub no_record : ℕ → ℕ → List ℕ
@@ -43,8 +42,10 @@ written_for s = output_for (take most_input s) reply_room
 
 -- ---- the steps to it
 
--- after a call: its replies stand already, and a refusal is written over what was there; it stops no stream
-abbrev pub Finished : Said → List ℕ → List ℕ → ℕ → Type 0
-Finished (gave n) p p' r = (r ≡ n) × (p' ≡ p)
-Finished (halted n d) p p' r = ⊥
-Finished (turned n d) p p' r = Wrote p 0 (no_record n d) p' r
+-- what a verdict leaves in the answer and in the bytes for replies: a refusal changes none, otherwise the replies stand in front
+abbrev pub Leaves : Verdict State → Said → List ℕ → List ℕ → Type 0
+Leaves (refused n d) a p p' = (a ≡ turned n d) × (p' ≡ p)
+Leaves (done σ bs) a p p' = (a ≡ gave (length bs)) × (p' ≡ bs ++ drop (length bs) p)
+
+pub record Answered (v : Verdict State) (a : Said) (p p' : List ℕ) : Type 0 where
+  pub leaves : Leaves v a p p'

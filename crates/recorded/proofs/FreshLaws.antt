@@ -8,6 +8,7 @@ use native.Mathlib.Nat.{sub-zero, suc-sub-suc, zero-sub}
 use native.Mathlib.Omega.{arith}
 use lib.ListN.{length, take, drop, replicate, length-take, length-drop, length-append, length-replicate}
 use lib.Seq.{take_all, take_at}
+use Rattle.std.specs.Prelude.{Option, Some, Result, Ok, Err}
 use Rattle.cells.specs.Decides.{Decides}
 use Rattle.cells.proofs.DecidesLaws.{refuse, decides_map}
 use Rattle.rules.specs.State.{State}
@@ -17,14 +18,8 @@ use Rattle.rules.proofs.RefusalsLaws.{turned_away_by, turned-back}
 use Rattle.rules.specs.Sizing.{Asked, no_settings, settings_bytes, settings_of}
 use Rattle.rules.specs.Verdict.{Verdict, refused, done, create, Reads, reads, call, on_created, on_asked}
 use Rattle.sizing.specs.declared.Settings.{Settings}
-use Rattle.sizing.specs.declared.Read.{Read}
-use Rattle.sizing.specs.declared.Read.TheVariants.{Asked as Asked·, Bad}
 use Rattle.sizing.specs.Answers.{asked_of}
 use borrow.Author.Tests.{lt-leb}
-use Rattle.s3_fifo.specs.declared.Creation.{Creation}
-use Rattle.s3_fifo.specs.declared.Creation.TheVariants.{Made, Refused as NotMade}
-use Rattle.s3_fifo.specs.declared.Ran.{Ran}
-use Rattle.s3_fifo.specs.declared.Ran.TheVariants.{Done, Refused}
 use Rattle.s3_fifo.specs.Calls.{gave, turned, created_says, ran_says, Settled, Follows}
 use Rattle.s3_fifo.proofs.OnceLaws.{reads-once}
 use Rattle.store.specs.Holds.{Holds}
@@ -44,18 +39,18 @@ not-zero t e =
     omega arith
 
 -- a creation told by 0 was made
-made_by : (a : Creation) → (told_of (created_says a)).number ≡ 0 → created_says a ≡ gave 0
-made_by Made e = refl
-made_by (NotMade t) e = absurd (not-zero t e)
+made_by : (a : Result Unit Turned) → (told_of (created_says a)).number ≡ 0 → created_says a ≡ gave 0
+made_by (Ok x) e = refl
+made_by (Err t) e = absurd (not-zero t e)
 
-turned_by : (a : Creation) → ((told_of (created_says a)).number ≡ 0 → ⊥) → (n : ℕ) → created_says a ≡ gave n → ⊥
-turned_by Made h n e = h refl
-turned_by (NotMade t) h n e = let z : ◌≡◌ {A = ℕ} 0 1 = cc in absurd (omega arith)
+turned_by : (a : Result Unit Turned) → ((told_of (created_says a)).number ≡ 0 → ⊥) → (n : ℕ) → created_says a ≡ gave n → ⊥
+turned_by (Ok x) h n e = h refl
+turned_by (Err t) h n e = let z : ◌≡◌ {A = ℕ} 0 1 = cc in absurd (omega arith)
 
 -- and a call that was turned away is told by another number
-turned-ran : (a : Ran) (n d : ℕ) → ran_says a ≡ turned n d → (told_of (ran_says a)).number ≡ 0 → ⊥
-turned-ran (Done m) n d e z = let y : ◌≡◌ {A = ℕ} 0 1 = cc in absurd (omega arith)
-turned-ran (Refused t) n d e z = not-zero t z
+turned-ran : (a : Result ℕ Turned) (n d : ℕ) → ran_says a ≡ turned n d → (told_of (ran_says a)).number ≡ 0 → ⊥
+turned-ran (Ok m) n d e z = let y : ◌≡◌ {A = ℕ} 0 1 = cc in absurd (omega arith)
+turned-ran (Err t) n d e z = not-zero t z
 
 -- ---- verdicts
 
@@ -75,7 +70,7 @@ not-accepted : (v : Verdict State) (w : List ℕ) {r : Bool} → NotDone v → r
 not-accepted v w h e = rw e (refuse (λ a. h.never a.state w a.is))
 
 -- a creation that is not told by 0 makes nothing
-unmade : (v : Verdict State) (a : Creation) (s s' : List ℕ) → Follows v (created_says a) s s' [] [] → ((told_of (created_says a)).number ≡ 0 → ⊥)
+unmade : (v : Verdict State) (a : Result Unit Turned) (s s' : List ℕ) → Follows v (created_says a) s s' [] [] → ((told_of (created_says a)).number ≡ 0 → ⊥)
     → (q : List ℕ) (room : ℕ) → NotDone (on_created v q room)
 unmade (refused n d) a s s' f h q room = refused-not n d
 unmade (done σ bs) a s s' f h q room = absurd (turned_by a h (length bs) f.0)
@@ -87,7 +82,7 @@ record StateMade (v : Verdict State) (s s' : List ℕ) : Type 0 where
   is : v ≡ done state nothing
   settled : Settled s s' state
 
-made_of : (v : Verdict State) (a : Creation) (s s' : List ℕ) → Follows v (created_says a) s s' [] [] → (told_of (created_says a)).number ≡ 0 → StateMade v s s'
+made_of : (v : Verdict State) (a : Result Unit Turned) (s s' : List ℕ) → Follows v (created_says a) s s' [] [] → (told_of (created_says a)).number ≡ 0 → StateMade v s s'
 made_of (refused n d) a s s' f h =
     let e = sym (made_by a h) ∙ f.0 in let z : ◌≡◌ {A = ℕ} 0 1 = cc in absurd (omega arith)
 made_of (done σ bs) a s s' f h = record { state = σ; nothing = bs; is = refl; settled = f.1 }
@@ -115,7 +110,7 @@ wrote-is bs out room e =
 
 -- ---- the call of a case
 
-answer_decides : (v : Verdict State) (a : Ran) (t : Told) (s s' p' out w : List ℕ) (room : ℕ) {r : Bool}
+answer_decides : (v : Verdict State) (a : Result ℕ Turned) (t : Told) (s s' p' out w : List ℕ) (room : ℕ) {r : Bool}
     → Follows v (ran_says a) s s' (replicate room unwritten) p' → t ≡ told_of (ran_says a) → out ≡ p' → Decides (CaseAsWritten w t out) r
     → Decides (Accepts v w) r
 answer_decides (refused n d) a t s s' p' out w room f e o c =
@@ -173,9 +168,6 @@ module _ (q w : List ℕ) (room : ℕ) where
   unfolding settings_of
   case_short h = none-asked (rw (lt-leb settings_bytes (length q) h) refl)
 
-  pub case_bad : {read : Read} → read ≡ Bad → asked_of read ≡ settings_of q → Decides (Accepted q room w) false
-  case_bad e f = none-asked (sym f ∙ ap asked_of e)
-
 module _ (store : List ℕ) (settings : Settings) (t : Told) (s : List ℕ) (long : store_bytes ≤ length store) (c : CreatedIn store_bytes settings store t s) where
   abbrev verdict : Verdict State
   verdict = create settings.capacity settings.small_ratio settings.ghost_ratio store_bytes
@@ -202,8 +194,8 @@ module _ (store : List ℕ) (settings : Settings) (t : Told) (s : List ℕ) (lon
       rw u.is
       (run_decides u.state s q w d.store' d.out room d.told (rw p (omega arith)) (rw p u.settled.holds) d.ran d.says)
 
-module _ (q w store : List ℕ) (room : ℕ) {read : Read} {settings : Settings} {t : Told} {s : List ℕ} (long : store_bytes ≤ length store)
-    (e : read ≡ Asked· settings) (f : asked_of read ≡ settings_of q) (c : CreatedIn store_bytes settings store t s) where
+module _ (q w store : List ℕ) (room : ℕ) {read : Option Settings} {settings : Settings} {t : Told} {s : List ℕ} (long : store_bytes ≤ length store)
+    (e : read ≡ Some settings) (f : asked_of read ≡ settings_of q) (c : CreatedIn store_bytes settings store t s) where
   pub case_refused : (t.number ≡ 0 → ⊥) → Decides (Accepted q room w) false
   case_refused n = asked_as q w room (sym (ap asked_of e) ∙ f) (not_made store settings t s long c (drop settings_bytes q) w room n)
 

@@ -1,4 +1,3 @@
-mod ToldLaws
-mod ComparedLaws
-mod StepsLaws
-mod FreshLaws
+pub mod ComparedLaws
+pub mod FreshLaws
+pub mod StepsLaws

@@ -9,10 +9,6 @@ use Rattle.recorded.specs.declared.Step.{Step}
 abbrev pub unwritten : ℕ
 unwritten = 165
 
--- all bytes of s are b
-pub record AllAre (s : List ℕ) (b : ℕ) : Type 0 where
-  pub is : s ≡ replicate (length s) b
-
 -- a and b reach to a place, and are the same from there on
 pub record SameFrom (a b : List ℕ) (from : ℕ) : Type 0 where
   pub in_a : from ≤ length a

@@ -1,19 +1,20 @@
 -- What the steps and cases of a file come to: the calls on a part of the store, whether all went as written, and the tally.
 -- Assumes nothing.
-use Rattle.std.specs.Prelude.{◌≡◌, Bool, true, false, cond, List, ◌++◌, ℕ, ◌+◌, ◌≤◌, ◌<◌, ◌%◌, leb, ltb, length, take, drop, replicate}
+use Rattle.std.specs.Prelude.{◌≡◌, Bool, true, false, cond, List, ◌++◌, ℕ, ◌+◌, ◌≤◌, ◌<◌, ◌%◌, eqb, leb, ltb, length, take, drop, replicate}
+use Rattle.std.specs.Prelude.{Option, Some, None, Result, Ok, Err, IsErr}
 use Rattle.cells.specs.Cells.{le}
 use Rattle.cells.specs.Decides.{Decides}
 use Rattle.rules.specs.Sizing.{no_settings, settings_of}
 use Rattle.rules.specs.Refusals.{store_bytes}
+use Rattle.rules.specs.declared.Turned.{Turned}
 use Rattle.sizing.specs.declared.Settings.{Settings}
 use Rattle.sizing.specs.Answers.{asks_of}
-use Rattle.s3_fifo.specs.declared.Creation.{Creation}
-use Rattle.s3_fifo.specs.declared.Ran.{Ran}
 use Rattle.s3_fifo.specs.Calls.{created_says, ran_says, Created, Called}
 use Rattle.recorded.specs.declared.Told.{Told}
+use Rattle.recorded.specs.declared.Kind.{Kind}
+use Rattle.recorded.specs.declared.Kind.TheVariants.{Fill, Lay, Create, Run}
 use Rattle.recorded.specs.declared.Step.{Step}
-use Rattle.recorded.specs.declared.Case.{Case}
-use Rattle.recorded.specs.declared.Case.TheVariants.{Same, Differs, End, Broken}
+use Rattle.recorded.specs.declared.Broken.{Broken}
 use Rattle.recorded.specs.declared.Tally.{Tally}
 use Rattle.recorded.specs.Told.{told_of}
 use Rattle.recorded.specs.Compared.{unwritten, CreatedAsWritten, RanAsWritten, CaseAsWritten}
@@ -21,20 +22,28 @@ use Rattle.recorded.specs.Fresh.{Accepted}
 
 -- ---- files
 
--- n bytes were read only where the buffer has room for them; nothing says which they are
-pub record ReadPart (n : ℕ) (buf : List ℕ) (r : Bool) : Type 0 where
-  pub fits : r ≡ true → n ≤ length buf
+-- what a step does, by its number: fill the store, lay bytes into it, create, or run
+abbrev pub kind_of : ℕ → Option Kind
+kind_of n = cond (eqb n 0) (Some Fill) (cond (eqb n 1) (Some Lay) (cond (eqb n 2) (Some Create) (cond (eqb n 3) (Some Run) None)))
 
 -- the step in the 32 bytes before its input
 abbrev pub step_of : List ℕ → Step
 step_of h =
-    record { kind = le 4 h 0; store = le 4 h 4; room = le 4 h 8; number = le 4 h 12; input = le 4 h 16; output = le 4 h 20; detail = le 8 h 24 }
+    record {
+      kind = kind_of (le 4 h 0);
+      store = le 4 h 4;
+      room = le 4 h 8;
+      number = le 4 h 12;
+      input = le 4 h 16;
+      output = le 4 h 20;
+      detail = le 8 h 24;
+    }
 
 -- ---- calls on the first n bytes of a store
 
 -- s' is s with those bytes as the creation left them
 pub record CreatedIn (n : ℕ) (settings : Settings) (s : List ℕ) (t : Told) (s' : List ℕ) : Type 0 where
-  pub created : Creation
+  pub created : Result Unit Turned
   pub part : List ℕ
   pub called : Created settings (take n s) created part
   pub store : s' ≡ part ++ drop n s
@@ -42,7 +51,7 @@ pub record CreatedIn (n : ℕ) (settings : Settings) (s : List ℕ) (t : Told) (
 
 -- a call, with the first m bytes of p for replies
 pub record RanIn (n m : ℕ) (s q p : List ℕ) (t : Told) (s' p' : List ℕ) : Type 0 where
-  pub ran : Ran
+  pub ran : Result ℕ Turned
   pub part : List ℕ
   pub replies : List ℕ
   pub called : Called (take n s) q (take m p) ran part replies
@@ -84,11 +93,11 @@ pub data RunStepped (s : Step) (q w store : List ℕ) (room : ℕ) (r : Bool) (s
 
 -- a step of any kind, with the input q and the output w, where there is room for so many reply bytes
 pub data Stepped (s : Step) (q w store : List ℕ) (room : ℕ) (r : Bool) (store' : List ℕ) : Type 0 where
-  fill_step : s.kind ≡ 0 → r ≡ true → store' ≡ replicate (length store) (s.number % 256) → Stepped s q w store room r store'
-  lay_step : s.kind ≡ 1 → Laid s.room q store store' r → Stepped s q w store room r store'
-  create_step : s.kind ≡ 2 → CreateStepped s q store r store' → Stepped s q w store room r store'
-  run_step : s.kind ≡ 3 → RunStepped s q w store room r store' → Stepped s q w store room r store'
-  no_step : 3 < s.kind → r ≡ false → store' ≡ store → Stepped s q w store room r store'
+  fill_step : s.kind ≡ Some Fill → r ≡ true → store' ≡ replicate (length store) (s.number % 256) → Stepped s q w store room r store'
+  lay_step : s.kind ≡ Some Lay → Laid s.room q store store' r → Stepped s q w store room r store'
+  create_step : s.kind ≡ Some Create → CreateStepped s q store r store' → Stepped s q w store room r store'
+  run_step : s.kind ≡ Some Run → RunStepped s q w store room r store' → Stepped s q w store room r store'
+  no_step : s.kind ≡ None → r ≡ false → store' ≡ store → Stepped s q w store room r store'
 
 -- ---- cases
 
@@ -100,52 +109,46 @@ pub record CaseRun (q w store : List ℕ) (room : ℕ) (r : Bool) : Type 0 where
   pub ran : RanIn store_bytes room store q (replicate room unwritten) told store' out
   pub says : Decides (CaseAsWritten w told out) r
 
--- ---- the tally
-
-abbrev pub went_as : Bool → Case
-went_as true = Same
-went_as false = Differs
+-- ---- the next of a file
 
 -- the step s with the first bytes of input and output
-pub record StepWent (s : Step) (input output store : List ℕ) (room : ℕ) (r : Case) (store' : List ℕ) : Type 0 where
-  pub well : Bool
-  pub taken : Stepped s (take s.input input) (take s.output output) store room well store'
-  pub is : r ≡ went_as well
+pub record StepWent (s : Step) (input output store : List ℕ) (room : ℕ) (r : Bool) (store' : List ℕ) : Type 0 where
+  pub taken : Stepped s (take s.input input) (take s.output output) store room r store'
 
 -- the case that is the first n bytes of input and the first m of output
-pub record CaseWent (n m : ℕ) (input output : List ℕ) (room : ℕ) (r : Case) : Type 0 where
-  pub well : Bool
-  pub taken : Decides (Accepted (take n input) room (take m output)) well
-  pub is : r ≡ went_as well
-
--- P, which is what r says, unless r says that the file is broken
-pub data OrBroken (P : Type 0) (r : Case) : Type 0 where
-  broken : r ≡ Broken → OrBroken P r
-  whole : P → OrBroken P r
+pub record CaseWent (n m : ℕ) (input output : List ℕ) (room : ℕ) (r : Bool) : Type 0 where
+  pub taken : Decides (Accepted (take n input) room (take m output)) r
 
 -- the next step of a file, with what was read for input and output: which bytes they are, nothing says
-pub data NextStep (input output store : List ℕ) (room : ℕ) (r : Case) (store' : List ℕ) : Type 0 where
-  steps_end : r ≡ End → NextStep input output store room r store'
-  cut_step : r ≡ Broken → NextStep input output store room r store'
-  step_read : (s : Step) → StepWent s input output store room r store' → NextStep input output store room r store'
+pub data NextStep (input output store : List ℕ) (room : ℕ) (r : Result (Option Bool) Broken) (store' : List ℕ) : Type 0 where
+  steps_end : r ≡ Ok None → NextStep input output store room r store'
+  cut_step : IsErr r → NextStep input output store room r store'
+  step_read : (s : Step) (well : Bool) → StepWent s input output store room well store' → r ≡ Ok (Some well) → NextStep input output store room r store'
 
 -- and the next case
-pub data NextCase (input output : List ℕ) (room : ℕ) (r : Case) : Type 0 where
-  end_of_cases : r ≡ End → NextCase input output room r
-  case_cut : r ≡ Broken → NextCase input output room r
-  case_read : (n m : ℕ) → CaseWent n m input output room r → NextCase input output room r
+pub data NextCase (input output : List ℕ) (room : ℕ) (r : Result (Option Bool) Broken) : Type 0 where
+  end_of_cases : r ≡ Ok None → NextCase input output room r
+  case_cut : IsErr r → NextCase input output room r
+  case_read : (n m : ℕ) (well : Bool) → CaseWent n m input output room well → r ≡ Ok (Some well) → NextCase input output room r
+
+-- ---- the tally
 
 -- a count stops at the largest number
 abbrev pub more_of : ℕ → ℕ
 more_of n = cond (ltb n 18446744073709551615) (n + 1) n
 
-abbrev pub counted_as : Tally → Case → Tally
-counted_as t Same = record { taken = more_of t.taken; differ = t.differ; going = true; whole = true }
-counted_as t Differs = record { taken = more_of t.taken; differ = more_of t.differ; going = true; whole = true }
-counted_as t End = record { taken = t.taken; differ = t.differ; going = false; whole = true }
-counted_as t Broken = record { taken = t.taken; differ = t.differ; going = false; whole = false }
+abbrev pub counted_as : Tally → Bool → Tally
+counted_as t true = record { taken = more_of t.taken; differ = t.differ }
+counted_as t false = record { taken = more_of t.taken; differ = more_of t.differ }
 
--- one more step or case, and the tally after it
-pub data TurnTaken (steps : Bool) (t : Tally) (input output store : List ℕ) (room : ℕ) (r : Tally) (store' : List ℕ) : Type 0 where
-  step_turn : steps ≡ true → (c : Case) → NextStep input output store room c store' → r ≡ counted_as t c → TurnTaken steps t input output store room r store'
-  case_turn : steps ≡ false → (c : Case) → NextCase input output room c → r ≡ counted_as t c → TurnTaken steps t input output store room r store'
+abbrev pub counted_by : Tally → Result (Option Bool) Broken → Result (Option Tally) Broken
+counted_by t (Ok (Some well)) = Ok (Some (counted_as t well))
+counted_by t (Ok None) = Ok None
+counted_by t (Err b) = Err b
+
+-- one more step or case, which goes as Goes says, and the tally after it
+pub record TurnTaken (Goes : List ℕ → List ℕ → List ℕ → ℕ → Result (Option Bool) Broken → List ℕ → Type 0) (t : Tally) (input output store : List ℕ) (room : ℕ)
+    (r : Result (Option Tally) Broken) (store' : List ℕ) : Type 0 where
+  pub went : Result (Option Bool) Broken
+  pub goes : Goes input output store room went store'
+  pub is : r ≡ counted_by t went

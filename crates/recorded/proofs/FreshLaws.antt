@@ -82,7 +82,8 @@ record StateMade (v : Verdict State) (s s' : List ℕ) : Type 0 where
   is : v ≡ done state nothing
   settled : Settled s s' state
 
-made_of : (v : Verdict State) (a : Result Unit Turned) (s s' : List ℕ) → Follows v (created_says a) s s' [] [] → (told_of (created_says a)).number ≡ 0 → StateMade v s s'
+made_of : (v : Verdict State) (a : Result Unit Turned) (s s' : List ℕ) → Follows v (created_says a) s s' [] []
+    → (told_of (created_says a)).number ≡ 0 → StateMade v s s'
 made_of (refused n d) a s s' f h =
     let e = sym (made_by a h) ∙ f.0 in let z : ◌≡◌ {A = ℕ} 0 1 = cc in absurd (omega arith)
 made_of (done σ bs) a s s' f h = record { state = σ; nothing = bs; is = refl; settled = f.1 }

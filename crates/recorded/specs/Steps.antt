@@ -11,8 +11,8 @@ use Rattle.sizing.specs.declared.Settings.{Settings}
 use Rattle.sizing.specs.Answers.{asks_of}
 use Rattle.s3_fifo.specs.Calls.{created_says, ran_says, Created, Called}
 use Rattle.recorded.specs.declared.Told.{Told}
-use Rattle.recorded.specs.declared.Kind.{Kind}
-use Rattle.recorded.specs.declared.Kind.TheVariants.{Fill, Lay, Create, Run}
+use Rattle.recorded.specs.declared.Act.{Act}
+use Rattle.recorded.specs.declared.Act.TheVariants.{Fill, Lay, Create, Run}
 use Rattle.recorded.specs.declared.Step.{Step}
 use Rattle.recorded.specs.declared.Broken.{Broken}
 use Rattle.recorded.specs.declared.Tally.{Tally}
@@ -23,14 +23,14 @@ use Rattle.recorded.specs.Fresh.{Accepted}
 -- ---- files
 
 -- what a step does, by its number: fill the store, lay bytes into it, create, or run
-abbrev pub kind_of : ℕ → Option Kind
-kind_of n = cond (eqb n 0) (Some Fill) (cond (eqb n 1) (Some Lay) (cond (eqb n 2) (Some Create) (cond (eqb n 3) (Some Run) None)))
+abbrev pub act_of : ℕ → Option Act
+act_of n = cond (eqb n 0) (Some Fill) (cond (eqb n 1) (Some Lay) (cond (eqb n 2) (Some Create) (cond (eqb n 3) (Some Run) None)))
 
 -- the step in the 32 bytes before its input
 abbrev pub step_of : List ℕ → Step
 step_of h =
     record {
-      kind = kind_of (le 4 h 0);
+      kind = act_of (le 4 h 0);
       store = le 4 h 4;
       room = le 4 h 8;
       number = le 4 h 12;

@@ -40,7 +40,7 @@ struct Told {
 
 // What a step does.
 #[derive(Clone, Copy)]
-enum Kind {
+enum Act {
     Fill,
     Lay,
     Create,
@@ -49,14 +49,14 @@ enum Kind {
 
 // No step has this kind.
 #[derive(Clone, Copy)]
-struct NoKind(u32);
+struct NoAct(u32);
 
 // A step. One that fills makes all bytes of the store the byte `number`; one that lays puts the input into it at `room`; one that creates does so with the
 // settings in the input; one that runs takes the input's requests, with `room` bytes for replies. A call is lent the first `store` bytes, and must answer
 // `number`, `detail` and the output.
 #[derive(Clone, Copy)]
 struct Step {
-    kind: Option<Kind>,
+    kind: Option<Act>,
     store: usize,
     room: usize,
     number: u32,
@@ -295,13 +295,13 @@ impl Bench {
         ensures { Stepped s input.now output.now self.old.store (length self.old.out) result self.new.store }
     {
         match s.kind {
-            Some(Kind::Fill) => {
+            Some(Act::Fill) => {
                 self.store.fill((s.number % 256) as u8);
                 true
             }
-            Some(Kind::Lay) => lay(&mut self.store, s.room, input),
-            Some(Kind::Create) => self.create_step(s, input),
-            Some(Kind::Run) => self.run_step(s, input, output),
+            Some(Act::Lay) => lay(&mut self.store, s.room, input),
+            Some(Act::Create) => self.create_step(s, input),
+            Some(Act::Run) => self.run_step(s, input, output),
             None => false,
         }
     }
@@ -342,21 +342,21 @@ impl Bench {
     }
 }
 
-impl TryFrom<u32> for Kind {
-    type Error = NoKind;
+impl TryFrom<u32> for Act {
+    type Error = NoAct;
 
     ghost use Rattle.std.specs.Result.{result_ok};
-    ghost use Rattle.recorded.specs.Steps.{kind_of};
+    ghost use Rattle.recorded.specs.Steps.{act_of};
 
-    ghost try_from_gives = { λ n r. result_ok r ≡ kind_of n };
+    ghost try_from_gives = { λ n r. result_ok r ≡ act_of n };
 
-    fn try_from(n: u32) -> Result<Kind, NoKind> {
+    fn try_from(n: u32) -> Result<Act, NoAct> {
         match n {
-            0 => Ok(Kind::Fill),
-            1 => Ok(Kind::Lay),
-            2 => Ok(Kind::Create),
-            3 => Ok(Kind::Run),
-            _ => Err(NoKind(n)),
+            0 => Ok(Act::Fill),
+            1 => Ok(Act::Lay),
+            2 => Ok(Act::Create),
+            3 => Ok(Act::Run),
+            _ => Err(NoAct(n)),
         }
     }
 }
@@ -367,7 +367,7 @@ fn step_of(head: &[u8]) -> Step
     ensures { result ≡ step_of head.now }
 {
     Step {
-        kind: Kind::try_from(cells::get32(head, 0)).ok(),
+        kind: Act::try_from(cells::get32(head, 0)).ok(),
         store: cells::get32(head, 4) as usize,
         room: cells::get32(head, 8) as usize,
         number: cells::get32(head, 12),
@@ -404,7 +404,7 @@ impl Part {
 }
 
 // What a file is a run of: one after another is read and taken, and answers whether it went as written. Nothing comes at the end of the file.
-trait Entry {
+trait Takes {
     ghost use Rattle.std.specs.Prelude.{List, ℕ, Bool, Option, Result};
     ghost use Rattle.recorded.specs.declared.Broken.{Broken};
 
@@ -419,9 +419,9 @@ trait Entry {
 }
 
 // The steps of a file, which all work on one store.
-struct Steps;
+struct StepTaker;
 
-impl Entry for Steps {
+impl Takes for StepTaker {
     ghost goes = { NextStep };
 
     fn next<R: io::Read>(
@@ -439,9 +439,9 @@ impl Entry for Steps {
 }
 
 // The cases of a file, each on a fresh store.
-struct Cases;
+struct CaseTaker;
 
-impl Entry for Cases {
+impl Takes for CaseTaker {
     ghost goes = { λ input output store room r store'. NextCase input output room r };
 
     fn next<R: io::Read>(
@@ -486,15 +486,15 @@ impl fmt::Display for Tally {
 }
 
 // One more case or step, and the tally after it.
-fn turn<E: Entry, R: io::Read>(
+fn turn<T: Takes, R: io::Read>(
     from: &mut R,
     t: Tally,
     part: &mut Part,
     bench: &mut Bench,
 ) -> Result<Option<Tally>, Broken>
-    ensures { TurnTaken E.goes t part.new.input part.new.output bench.old.store (length bench.old.out) result bench.new.store }
+    ensures { TurnTaken T.goes t part.new.input part.new.output bench.old.store (length bench.old.out) result bench.new.store }
 {
-    match E::next(from, part, bench)? {
+    match T::next(from, part, bench)? {
         Some(well) => Ok(Some(t.counted(well))),
         None => Ok(None),
     }
@@ -502,7 +502,7 @@ fn turn<E: Entry, R: io::Read>(
 
 // All of a file; what does not agree is named, by its number in the file from 1 on, as soon as it is met. Nothing says that a file ends, so the turns have
 // numbers too, of which no run comes to the last.
-fn replay<E: Entry, P: Print, R: io::Read>(rt: &P, from: &mut R) -> io::Result<()> {
+fn replay<T: Takes, P: Print, R: io::Read>(rt: &P, from: &mut R) -> io::Result<()> {
     let mut part = Part {
         input: intake::zeros(),
         output: intake::zeros(),
@@ -517,7 +517,7 @@ fn replay<E: Entry, P: Print, R: io::Read>(rt: &P, from: &mut R) -> io::Result<(
         differ: 0,
     };
     for _ in 0..u64::MAX {
-        match turn::<E, R>(from, t, &mut part, &mut bench) {
+        match turn::<T, R>(from, t, &mut part, &mut bench) {
             Ok(Some(next)) => {
                 if next.differ != t.differ {
                     let number = next.taken;
@@ -533,22 +533,22 @@ fn replay<E: Entry, P: Print, R: io::Read>(rt: &P, from: &mut R) -> io::Result<(
 }
 
 // Replays the file of this name. One that is no text cannot be opened.
-fn replay_named<E: Entry, R: Files + Print>(rt: &R, path: &[u8]) -> io::Result<()> {
+fn replay_named<T: Takes, R: Files + Print>(rt: &R, path: &[u8]) -> io::Result<()> {
     match str::from_utf8(path) {
-        Ok(name) => replay_opened::<E, R, _>(rt, fs::open(rt, name)),
+        Ok(name) => replay_opened::<T, R, _>(rt, fs::open(rt, name)),
         Err(_) => println!(rt; ": cannot be opened"),
     }
 }
 
 // Replays a file, if it could be opened.
-fn replay_opened<E: Entry, P: Print, R: io::Read + Drop>(
+fn replay_opened<T: Takes, P: Print, R: io::Read + Drop>(
     rt: &P,
     opened: io::Result<R>,
 ) -> io::Result<()> {
     match opened {
         Ok(mut file) => {
             print!(rt; ": ")?;
-            replay::<E, P, R>(rt, &mut file)
+            replay::<T, P, R>(rt, &mut file)
         }
         Err(_) => println!(rt; ": cannot be opened"),
     }
@@ -572,11 +572,11 @@ fn has_argument<R: Env>(rt: &R, i: usize) -> bool {
 }
 
 // Replays the file that argument i names.
-fn replay_arg<E: Entry, R: Files + Print + Env>(rt: &R, i: usize) -> io::Result<()> {
+fn replay_arg<T: Takes, R: Files + Print + Env>(rt: &R, i: usize) -> io::Result<()> {
     let mut path = intake::zeros::<{ intake::ARGUMENT_BYTES }>();
     let n = argument(rt, i, &mut path).unwrap_or(0);
     rt.write_all(&path[..n])?;
-    replay_named::<E, R>(rt, &path[..n])
+    replay_named::<T, R>(rt, &path[..n])
 }
 
 // The last argument names a file of steps, and those before it files of cases.
@@ -586,9 +586,9 @@ fn main(rt: HostRuntime) -> io::Result<()> {
             break;
         }
         if has_argument(&rt, i + 1) {
-            replay_arg::<Cases, HostRuntime>(&rt, i)?;
+            replay_arg::<CaseTaker, HostRuntime>(&rt, i)?;
         } else {
-            replay_arg::<Steps, HostRuntime>(&rt, i)?;
+            replay_arg::<StepTaker, HostRuntime>(&rt, i)?;
         }
     }
     Ok(())

@@ -25,7 +25,7 @@ use Rattle.wire.specs.Wire.{splice, Wrote}
 use Rattle.wire.proofs.SpliceLaws.{put-splice, wrote-wrote, wrote-length}
 use Rattle.s3_fifo.specs.Calls.{Said, gave, turned, created_says, ran_says, Settled, Follows, Created, Called}
 use Rattle.s3_fifo.proofs.OnceLaws.{reads-once}
-use Rattle.replay.specs.Output.{no_record, no_bytes, printed, output_for, Leaves, Answered}
+use Rattle.replay.specs.Output.{no_record, no_bytes, printed, output_for, ReplyLeaves, ReplyAs}
 
 -- ---- the record of a refusal
 
@@ -52,7 +52,7 @@ refusal_wrote {p} n d h e₁ e₂ e₃ e₄ =
 -- ---- what an answer comes to
 
 -- the record of a refusal, where nothing was written before
-leaves-refused : (v : Verdict State) (n d : ℕ) (p p' p'' : List ℕ) (r : ℕ) → Leaves v (turned n d) p p' → Wrote p' 0 (no_record n d) p'' r
+leaves-refused : (v : Verdict State) (n d : ℕ) (p p' p'' : List ℕ) (r : ℕ) → ReplyLeaves v (turned n d) p p' → Wrote p' 0 (no_record n d) p'' r
     → Wrote p 0 (printed v) p'' r
 leaves-refused (refused m e) n d p p' p'' r l w =
     let h = l.0 in let a : n ≡ m = cc in let b : d ≡ e = cc in
@@ -60,7 +60,7 @@ leaves-refused (refused m e) n d p p' p'' r l w =
 leaves-refused (done σ bs) n d p p' p'' r l w = let h = l.0 in let z : ◌≡◌ {A = ℕ} 0 1 = cc in absurd (omega arith)
 
 -- and replies as they stand
-leaves-gave : (v : Verdict State) (n : ℕ) (p p' : List ℕ) → Leaves v (gave n) p p' → Wrote p 0 (printed v) p' n
+leaves-gave : (v : Verdict State) (n : ℕ) (p p' : List ℕ) → ReplyLeaves v (gave n) p p' → Wrote p 0 (printed v) p' n
 unfolding splice
 leaves-gave (refused m e) n p p' l = let h = l.0 in let z : ◌≡◌ {A = ℕ} 0 1 = cc in absurd (omega arith)
 leaves-gave (done σ bs) n p p' l =
@@ -70,9 +70,9 @@ leaves-gave (done σ bs) n p p' l =
 abbrev verdict_on : List ℕ → List ℕ → Verdict State
 verdict_on s p = on_asked (settings_of s) (drop settings_bytes s) (length p)
 
-module _ (s p : List ℕ) {a : Result ℕ Turned} {p' : List ℕ} (l : Answered (verdict_on s p) (ran_says a) p p') where
-  as-said : {b : Result ℕ Turned} → a ≡ b → Answered (verdict_on s p) (ran_says b) p p'
-  as-said e = subst (λ (x : Result ℕ Turned). Answered (verdict_on s p) (ran_says x) p p') e l
+module _ (s p : List ℕ) {a : Result ℕ Turned} {p' : List ℕ} (l : ReplyAs (verdict_on s p) (ran_says a) p p') where
+  as-said : {b : Result ℕ Turned} → a ≡ b → ReplyAs (verdict_on s p) (ran_says b) p p'
+  as-said e = subst (λ (x : Result ℕ Turned). ReplyAs (verdict_on s p) (ran_says x) p p') e l
 
   pub reply_refused : {t : Turned} {p'' : List ℕ} {r : ℕ} → a ≡ Err t → Wrote p' 0 (no_record (number_of t) (detail_of t)) p'' r
       → Wrote p 0 (output_for s (length p)) p'' r
@@ -97,7 +97,7 @@ gave-done (refused m e) n s s' p p' l = let h = l.0 in let z : ◌≡◌ {A = �
 gave-done (done σ bs) n s s' p p' l = record { state = σ; nothing = bs; is = refl; settled = l.1 }
 
 -- the replies alone
-leaves-as : (v : Verdict State) (a : Said) (s s' p p' : List ℕ) → Follows v a s s' p p' → Leaves v a p p'
+leaves-as : (v : Verdict State) (a : Said) (s s' p p' : List ℕ) → Follows v a s s' p p' → ReplyLeaves v a p p'
 leaves-as (refused n d) a s s' p p' l = (l.0, l.2)
 leaves-as (done σ bs) a s s' p p' l = (l.0, l.2)
 
@@ -108,12 +108,12 @@ module _ {settings : Settings} {s s' : List ℕ} {created : Result Unit Turned} 
   left_as : (q : Result Unit Turned) → created ≡ q → Follows creation (created_says q) s s' [] []
   left_as q e = rw (← long, e) at c.leaves
 
-  output_is : {v : Verdict State} (q : List ℕ) {p p' : List ℕ} {a : Said} → creation ≡ v → Answered (on_created v q (length p)) a p p'
-      → Answered (on_asked (asks_of settings) q (length p)) a p p'
-  output_is {v} q {p} {p'} {a} e l = subst (λ (x : Verdict State). Answered (on_created x q (length p)) a p p') (sym e) l
+  output_is : {v : Verdict State} (q : List ℕ) {p p' : List ℕ} {a : Said} → creation ≡ v → ReplyAs (on_created v q (length p)) a p p'
+      → ReplyAs (on_asked (asks_of settings) q (length p)) a p p'
+  output_is {v} q {p} {p'} {a} e l = subst (λ (x : Verdict State). ReplyAs (on_created x q (length p)) a p p') (sym e) l
 
   pub run-made : {x : Unit} {s'' q p p' : List ℕ} {ran : Result ℕ Turned} → created ≡ Ok x → Called s' q p ran s'' p'
-      → Answered (on_asked (asks_of settings) q (length p)) (ran_says ran) p p'
+      → ReplyAs (on_asked (asks_of settings) q (length p)) (ran_says ran) p p'
   run-made {x} {s''} {q} {p} {p'} {ran} e d =
       let u = gave-done creation 0 s s' [] [] (left_as (Ok x) e) in
       let known : d.store ≡ reads u.state =
@@ -149,8 +149,8 @@ module _ (s : List ℕ) {read : Option Settings} (e : asked_of read ≡ settings
     rest = take_all (length s - settings_bytes) (drop settings_bytes s) (simp length-drop (omega arith))
 
     pub reply_asked : {p p' : List ℕ} {a : Said}
-        → Answered (on_asked (asks_of settings) (take (length s - settings_bytes) (drop settings_bytes s)) (length p)) a p p'
-        → Answered (on_asked (settings_of s) (drop settings_bytes s) (length p)) a p p'
+        → ReplyAs (on_asked (asks_of settings) (take (length s - settings_bytes) (drop settings_bytes s)) (length p)) a p p'
+        → ReplyAs (on_asked (settings_of s) (drop settings_bytes s) (length p)) a p p'
     reply_asked {p} {p'} {a} l =
-        let l' = subst (λ (q : List ℕ). Answered (on_asked (asks_of settings) q (length p)) a p p') rest l in
-        subst (λ (x : Asked). Answered (on_asked x (drop settings_bytes s) (length p)) a p p') asked_is l'
+        let l' = subst (λ (q : List ℕ). ReplyAs (on_asked (asks_of settings) q (length p)) a p p') rest l in
+        subst (λ (x : Asked). ReplyAs (on_asked x (drop settings_bytes s) (length p)) a p p') asked_is l'

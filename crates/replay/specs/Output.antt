@@ -43,9 +43,9 @@ written_for s = output_for (take most_input s) reply_room
 -- ---- the steps to it
 
 -- what a verdict leaves in the answer and in the bytes for replies: a refusal changes none, otherwise the replies stand in front
-abbrev pub Leaves : Verdict State → Said → List ℕ → List ℕ → Type 0
-Leaves (refused n d) a p p' = (a ≡ turned n d) × (p' ≡ p)
-Leaves (done σ bs) a p p' = (a ≡ gave (length bs)) × (p' ≡ bs ++ drop (length bs) p)
+abbrev pub ReplyLeaves : Verdict State → Said → List ℕ → List ℕ → Type 0
+ReplyLeaves (refused n d) a p p' = (a ≡ turned n d) × (p' ≡ p)
+ReplyLeaves (done σ bs) a p p' = (a ≡ gave (length bs)) × (p' ≡ bs ++ drop (length bs) p)
 
-pub record Answered (v : Verdict State) (a : Said) (p p' : List ℕ) : Type 0 where
-  pub leaves : Leaves v a p p'
+pub record ReplyAs (v : Verdict State) (a : Said) (p p' : List ℕ) : Type 0 where
+  pub leaves : ReplyLeaves v a p p'

@@ -10,7 +10,7 @@ ghost use Rattle.sizing.specs.Answers.{asks_of};
 ghost use Rattle.wire.specs.Wire.{Wrote};
 ghost use Rattle.s3_fifo.specs.Calls.{ran_says};
 ghost use Rattle.replay.specs.Output.{no_record, no_bytes, output_for};
-ghost use Rattle.replay.specs.Output.{Answered, most_input, reply_room, written_for};
+ghost use Rattle.replay.specs.Output.{ReplyAs, most_input, reply_room, written_for};
 ghost use Rattle.rules.specs.Refusals.{number_of, detail_of};
 
 use intake::Cut;
@@ -54,7 +54,7 @@ fn run_on(
     replies: &mut [u8],
 ) -> Result<usize, Turned>
     requires { store_bytes ≡ length store.old }
-    ensures { Answered (on_asked (asks_of settings) requests.now (length replies.old)) (ran_says result) replies.old replies.new }
+    ensures { ReplyAs (on_asked (asks_of settings) requests.now (length replies.old)) (ran_says result) replies.old replies.new }
 {
     S3FifoCache::create(settings, store)?;
     S3FifoCache::run(store, requests, replies)
@@ -62,7 +62,7 @@ fn run_on(
 
 // The same, for settings and requests as they stand in an input.
 fn run_asked(input: &[u8], replies: &mut [u8]) -> Result<usize, Turned>
-    ensures { Answered (on_asked (settings_of input.now) (drop settings_bytes input.now) (length replies.old)) (ran_says result) replies.old replies.new }
+    ensures { ReplyAs (on_asked (settings_of input.now) (drop settings_bytes input.now) (length replies.old)) (ran_says result) replies.old replies.new }
 {
     let Some(settings) = sizing::read_settings(input) else {
         return Err(Turned::BadRecord(0));

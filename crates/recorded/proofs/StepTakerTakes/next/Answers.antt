@@ -1,7 +1,7 @@
--- `recorded::Steps` reads the steps of a file.
+-- `recorded::StepTaker` reads the steps of a file.
 use mathlib.Core.Path.{refl}
 use Rattle.recorded.specs.Steps.{cut_step, step_read}
-use Rattle.recorded.proofs.StepsEntry.next.Goals as goal
+use Rattle.recorded.proofs.StepTakerTakes.next.Goals as goal
 
 pub returns-in_err-head : goal.returns-in_err-head
 returns-in_err-head g c = cut_step c.from_residual.ensures.0

@@ -1,7 +1,7 @@
--- `recorded::Cases` reads the cases of a file.
+-- `recorded::CaseTaker` reads the cases of a file.
 use mathlib.Core.Path.{refl}
 use Rattle.recorded.specs.Steps.{case_cut, case_read}
-use Rattle.recorded.proofs.CasesEntry.next.Goals as goal
+use Rattle.recorded.proofs.CaseTakerTakes.next.Goals as goal
 
 pub returns-in_err-head : goal.returns-in_err-head
 returns-in_err-head g c = case_cut c.from_residual.ensures.0

@@ -172,7 +172,7 @@ fn turns(rt: &impl Print, s: &mut [u8], input: &[u8]) -> Result<Option<Shape>, B
 fn main(rt: HostRuntime) {
     let mut store = intake::zeros::<{ intake::LARGE_BYTES }>();
     let mut input = intake::zeros::<{ intake::LARGE_BYTES }>();
-    let n = intake::read_what_comes(&mut rt.stdin(), &mut input);
+    let n = intake::read_full(&mut rt.stdin(), &mut input);
     if let Err(bad) = turns(&rt, &mut store, &input[..n]) {
         say(&rt, bad);
     }

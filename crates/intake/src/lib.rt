@@ -24,7 +24,7 @@ pub fn zeros<const N: usize>() -> [u8; N]
 }
 
 // Reads until buf is full, the input ends or a read fails, and says how many bytes came: they stand at the start of buf.
-pub fn read_full<R: Read>(from: &mut R, buf: &mut [u8]) -> Result<usize, Cut>
+pub fn try_read_full<R: Read>(from: &mut R, buf: &mut [u8]) -> Result<usize, Cut>
     ensures upper_bound { IfOk result (λ n. n ≤ length buf.new) }
     ensures cut { IfErr result (λ c. c.0 ≤ length buf.new) }
     ensures bytes { IfOk result (λ n. Consumes (R.remaining from.old) (R.remaining from.new) (take n buf.new)) }
@@ -43,11 +43,11 @@ pub fn read_full<R: Read>(from: &mut R, buf: &mut [u8]) -> Result<usize, Cut>
 }
 
 // The same, where a read that fails counts as the end: how many bytes came.
-pub fn read_what_comes<R: Read>(from: &mut R, buf: &mut [u8]) -> usize
+pub fn read_full<R: Read>(from: &mut R, buf: &mut [u8]) -> usize
     ensures upper_bound { result ≤ length buf.new }
     ensures bytes { Consumes (R.remaining from.old) (R.remaining from.new) (take result buf.new) }
 {
-    match read_full(from, buf) {
+    match try_read_full(from, buf) {
         Ok(n) => n,
         Err(Cut(n)) => n,
     }

@@ -111,7 +111,7 @@ impl From<Result<usize, Turned>> for Told {
 fn read_part<R: io::Read>(from: &mut R, buf: &mut [u8], n: usize) -> Result<(), Broken>
     ensures { IfOk result (λ x. n ≤ length buf.new) }
 {
-    if buf.len() < n || intake::read_what_comes(from, &mut buf[..n]) < n {
+    if buf.len() < n || intake::read_full(from, &mut buf[..n]) < n {
         return Err(Broken);
     }
     Ok(())
@@ -122,7 +122,7 @@ fn read_head<const N: usize, R: io::Read>(from: &mut R) -> Result<Option<[u8; N]
     ensures { IfOk result (λ o. IfSome o (λ h. length h ≡ N)) }
 {
     let mut head = intake::zeros::<N>();
-    let got = intake::read_what_comes(from, &mut head);
+    let got = intake::read_full(from, &mut head);
     if got == 0 {
         return Ok(None);
     }

@@ -104,7 +104,7 @@ fn reply_read<S: io::Read>(from: &mut S, replies: &mut [u8]) -> Result<usize, Cu
     ensures upper_bound { IfOk result (λ n. n ≤ length replies.new) }
 {
     let mut input = intake::zeros::<MOST_INPUT_BYTES>();
-    let n = intake::read_full(from, &mut input)?;
+    let n = intake::try_read_full(from, &mut input)?;
     Ok(reply_within(&input[..n], replies))
 }
 

@@ -63,6 +63,6 @@ fn lines(rt: &impl Print, s: &[u8]) -> io::Result<()> {
 
 fn main(rt: HostRuntime) -> io::Result<()> {
     let mut buffer = intake::zeros::<{ intake::LARGE_BYTES }>();
-    let n = intake::read_what_comes(&mut rt.stdin(), &mut buffer);
+    let n = intake::read_full(&mut rt.stdin(), &mut buffer);
     lines(&rt, &buffer[..n])
 }

@@ -1,7 +1,7 @@
 -- What is there is never more than the buffer has, and each turn brings more: the next of what the reader gives.
 use Rattle.std.proofs.Common.{length, take, ◌-◌, ◌≤◌}
 use Rattle.std.specs.Io.KnownBytes.{Consumes}
-use Rattle.intake.proofs.read_full.Given as goal
+use Rattle.intake.proofs.try_read_full.Given as goal
 
 abbrev pub invariant-loop-done : goal.invariant-loop-done
 invariant-loop-done g l = (l.done ≤ length l.buf) × Consumes (g.R.Read.remaining l.initial.from) (g.R.Read.remaining l.from) (take l.done l.buf)

@@ -1,11 +1,11 @@
--- `intake::read_full` meets its contract: what a read gave follows what had come before it, in the reader and in the buffer.
+-- `intake::try_read_full` meets its contract: what a read gave follows what had come before it, in the reader and in the buffer.
 use Rattle.std.proofs.Common.{◌≡◌, ℕ, ◌+◌, ◌-◌, ◌≤◌, List, ◌++◌, rules, length, take, sym, ap, ◌∙◌, subst, length-take-le}
 use Rattle.std.proofs.lemmas.List.{take-append-le}
 use Rattle.std.proofs.Math.Seq.{take-append-add}
 use Rattle.std.specs.Io.KnownBytes.{Consumes}
 use Rattle.std.proofs.KnownBytes.{Consumes-trans}
 use borrow.Rule.Slice.PartMut.{put_mid, post_of}
-use Rattle.intake.proofs.read_full.Goals as goal
+use Rattle.intake.proofs.try_read_full.Goals as goal
 
 -- the first bytes after a write of ys behind them
 joined : (at k n : ℕ) (xs ys : List ℕ) → at ≤ length xs → n ≤ length ys → take at xs ++ take n ys ≡ take (at + n) (put_mid at k xs ys)

@@ -52,12 +52,7 @@ fn all_cool(s: &[u8], z: Shape) -> bool
     requires { Room z s.now }
     ensures { Decides (All (Cool z s.now) z.room) result }
 {
-    for x in 0..z.room {
-        if !is_cool(s, z, x) {
-            return false;
-        }
-    }
-    true
+    (0..z.room).all(|x| is_cool(s, z, x))
 }
 
 // Whether a store is sound at the shape of its own limits. That no key stands twice is the index's affair; that keys and values are 64 bits wide, the bytes'.

@@ -44,7 +44,6 @@ struct Cells {
 }
 
 // Cells of w bytes behind columns of b bytes to a node; the sentinels are nodes too.
-#[inline(always)]
 fn behind(z: Shape, b: usize, w: usize) -> Cells
     requires { (z.room + 4 < 65536) × (b ≤ 24) }
     ensures start { result.start ≡ 128 + b * (z.room + 4) }
@@ -56,8 +55,7 @@ fn behind(z: Shape, b: usize, w: usize) -> Cells
     }
 }
 
-// The layout. All of it is inlined, so that a cell that is named in code costs one load or one store.
-#[inline(always)]
+// The layout.
 fn cells_of(z: Shape, c: Column) -> Cells
     requires { z.room + 4 < 65536 }
     ensures start { result.start ≡ (span_of z (field_of c)).start }
@@ -79,29 +77,36 @@ fn cells_of(z: Shape, c: Column) -> Cells
     }
 }
 
-// The number in cell i of a column.
-#[inline(always)]
+// The number in cell i of a column. Where code names the column, one load is left of it.
 pub fn get64(s: &[u8], z: Shape, c: Column, i: usize) -> u64
     requires { Room z s.now × (i < rows z c) }
     ensures gets_field { GetsField z s.now (field_of c) i result }
     ensures upper_bound { result < limit z c }
 {
     let p = cells_of(z, c);
-    cells::get(s, p.start + p.width * i, p.width)
+    let at = p.start + p.width * i;
+    match p.width {
+        1 => cells::get::<1>(s, at),
+        2 => cells::get::<2>(s, at),
+        _ => cells::get::<8>(s, at),
+    }
 }
 
-// Writes a number to cell i of a column, and nothing else.
-#[inline(always)]
+// Writes a number to cell i of a column, and nothing else: one store, where code names the column.
 pub fn set64(s: &mut [u8], z: Shape, c: Column, i: usize, v: u64)
     requires { Room z s.old × (i < rows z c) × (v < limit z c) }
     ensures { SetsField z s.old s.new (field_of c) i v }
 {
     let p = cells_of(z, c);
-    cells::put(s, p.start + p.width * i, p.width, v);
+    let at = p.start + p.width * i;
+    match p.width {
+        1 => cells::put::<1>(s, at, v),
+        2 => cells::put::<2>(s, at, v),
+        _ => cells::put::<8>(s, at, v),
+    }
 }
 
 // The same for the numbers that code counts in usize: of nodes, of lists and of uses.
-#[inline(always)]
 pub fn get(s: &[u8], z: Shape, c: Column, i: usize) -> usize
     requires { Room z s.now × (i < rows z c) }
     ensures gets_field { GetsField z s.now (field_of c) i result }
@@ -111,7 +116,6 @@ pub fn get(s: &[u8], z: Shape, c: Column, i: usize) -> usize
 }
 
 // And a write of one.
-#[inline(always)]
 pub fn set(s: &mut [u8], z: Shape, c: Column, i: usize, v: usize)
     requires { Room z s.old × (i < rows z c) × (v < limit z c) }
     ensures { SetsField z s.old s.new (field_of c) i v }

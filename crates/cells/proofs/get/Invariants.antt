@@ -3,4 +3,4 @@ use Rattle.cells.proofs.StepsLaws.{ReadDown}
 use Rattle.cells.proofs.get.Given as goal
 
 abbrev pub invariant-loop-i : goal.invariant-loop-i
-invariant-loop-i l = ReadDown l.w l.s l.at l.i l.v
+invariant-loop-i g l = ReadDown g.row.W l.s l.at l.i l.v

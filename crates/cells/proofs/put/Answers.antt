@@ -6,10 +6,10 @@ use Rattle.cells.proofs.put.Goals as goal
 ruleset laws = (rules, writing_start, writing_next, writing_end)
 
 pub loop-i-init : goal.loop-i-init
-loop-i-init c = search laws
+loop-i-init g c = search laws
 
 pub loop-i-preserved : goal.loop-i-preserved
-loop-i-preserved c = search laws
+loop-i-preserved g c = search laws
 
 pub returns : goal.returns
-returns c = search laws
+returns g c = search laws

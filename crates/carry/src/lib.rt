@@ -49,9 +49,9 @@ fn written(offset: u64, stopped: bool, kept: &[u8]) -> [u8; rules::CARRY_BYTES]
     ensures { LaidOut (record { offset = offset; kept = kept.now; stopped = stopped }) result }
 {
     let mut form = [0u8; rules::CARRY_BYTES];
-    cells::put(&mut form, 0, 8, offset);
-    cells::put(&mut form, COUNT_AT, 1, kept.len() as u64);
-    cells::put(&mut form, STOPPED_AT, 1, stopped as u64);
+    cells::put::<8>(&mut form, 0, offset);
+    cells::put::<1>(&mut form, COUNT_AT, kept.len() as u64);
+    cells::put::<1>(&mut form, STOPPED_AT, stopped as u64);
     cells::copy(kept, &mut form[KEPT_AT..]);
     form
 }
@@ -102,7 +102,7 @@ pub fn read(carry: &[u8]) -> Result<Brought, Turned>
         return Err(Turned::BadCarry);
     }
     let kept = &carry[KEPT_AT..KEPT_AT + count];
-    let offset = cells::get(carry, 0, 8);
+    let offset = cells::get::<8>(carry, 0);
     let stopped = carry[STOPPED_AT] == 1;
     if !carry.starts_with(&written(offset, stopped, kept)) {
         return Err(Turned::BadCarry);

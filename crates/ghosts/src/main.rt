@@ -116,7 +116,7 @@ fn read(bytes: &[u8]) -> Option<Wanted>
     if bytes.len() < RECORD_BYTES {
         return None;
     }
-    wanted_by(cells::get8(bytes, 0), cells::get64(bytes, 1))
+    wanted_by(cells::get::<1>(bytes, 0) as u8, cells::get::<8>(bytes, 1))
 }
 
 // A line that cannot be written is left out, and the run goes on.

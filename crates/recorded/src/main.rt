@@ -367,13 +367,13 @@ fn step_of(head: &[u8]) -> Step
     ensures { result ≡ step_of head.now }
 {
     Step {
-        kind: Act::try_from(cells::get32(head, 0)).ok(),
-        store: cells::get32(head, 4) as usize,
-        room: cells::get32(head, 8) as usize,
-        number: cells::get32(head, 12),
-        input: cells::get32(head, 16) as usize,
-        output: cells::get32(head, 20) as usize,
-        detail: cells::get64(head, 24),
+        kind: Act::try_from(cells::get::<4>(head, 0) as u32).ok(),
+        store: cells::get::<4>(head, 4) as usize,
+        room: cells::get::<4>(head, 8) as usize,
+        number: cells::get::<4>(head, 12) as u32,
+        input: cells::get::<4>(head, 16) as usize,
+        output: cells::get::<4>(head, 20) as usize,
+        detail: cells::get::<8>(head, 24),
     }
 }
 
@@ -452,8 +452,8 @@ impl Takes for CaseTaker {
         let Some(head) = read_head::<8, R>(from)? else {
             return Ok(None);
         };
-        let n = cells::get32(&head, 0) as usize;
-        let m = cells::get32(&head, 4) as usize;
+        let n = cells::get::<4>(&head, 0) as usize;
+        let m = cells::get::<4>(&head, 4) as usize;
         part.read(from, n, m)?;
         Ok(Some(part.case_with(bench, n, m)))
     }

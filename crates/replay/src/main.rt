@@ -31,10 +31,10 @@ fn put_no(out: &mut [u8], number: u8, detail: u64) -> usize
     requires { no_bytes ≤ length out.old }
     ensures { Wrote out.old 0 (no_record number detail) out.new result }
 {
-    cells::put8(out, 0, NO[0]);
-    cells::put8(out, 1, NO[1]);
-    cells::put8(out, 2, number);
-    cells::put64(out, 3, detail);
+    cells::put::<1>(out, 0, NO[0] as u64);
+    cells::put::<1>(out, 1, NO[1] as u64);
+    cells::put::<1>(out, 2, number as u64);
+    cells::put::<8>(out, 3, detail);
     11
 }
 

@@ -121,9 +121,9 @@ fn decode(s: &[u8], at: usize) -> Settings
     ensures { asks_of result ≡ settings_at s.now at }
 {
     Settings {
-        capacity: cells::get(s, at, 8),
-        small_ratio: double_of(cells::get(s, at + 8, 8)),
-        ghost_ratio: double_of(cells::get(s, at + 16, 8)),
+        capacity: cells::get::<8>(s, at),
+        small_ratio: double_of(cells::get::<8>(s, at + 8)),
+        ghost_ratio: double_of(cells::get::<8>(s, at + 16)),
     }
 }
 

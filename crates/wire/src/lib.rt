@@ -118,12 +118,12 @@ fn request_at(s: &[u8], at: usize, kind: Kind) -> Request
     ensures { Asks s.now at kind result }
 {
     match kind {
-        Kind::Get => Request::Get(GuestBlock(cells::get(s, at + 2, 8))),
-        Kind::Peek => Request::Peek(GuestBlock(cells::get(s, at + 2, 8))),
-        Kind::Remove => Request::Remove(GuestBlock(cells::get(s, at + 2, 8))),
+        Kind::Get => Request::Get(GuestBlock(cells::get::<8>(s, at + 2))),
+        Kind::Peek => Request::Peek(GuestBlock(cells::get::<8>(s, at + 2))),
+        Kind::Remove => Request::Remove(GuestBlock(cells::get::<8>(s, at + 2))),
         Kind::Insert => Request::Insert(
-            GuestBlock(cells::get(s, at + 2, 8)),
-            PhysicalBlock(cells::get(s, at + 10, 8)),
+            GuestBlock(cells::get::<8>(s, at + 2)),
+            PhysicalBlock(cells::get::<8>(s, at + 10)),
         ),
         Kind::Evict => Request::Evict,
         Kind::Clear => Request::Clear,
@@ -192,7 +192,7 @@ fn put_number(replies: &mut [u8], at: usize, v: u64) -> usize
     requires { at + 8 ≤ length replies.old }
     ensures { Wrote replies.old at (bytes_of 8 v) replies.new result }
 {
-    cells::put(replies, at, 8, v);
+    cells::put::<8>(replies, at, v);
     at + 8
 }
 

@@ -8,7 +8,6 @@ ghost use Rattle.std.specs.Prelude.{◌≡◌, ◌≤◌, ◌==◌, length, repl
 ghost use Rattle.std.specs.List.{list_all};
 ghost use Rattle.cells.specs.Decides.{Decides};
 ghost use Rattle.s3_fifo.specs.Calls.{ran_says};
-ghost use Rattle.rules.specs.Refusals.{store_bytes};
 ghost use Rattle.recorded.specs.Told.{told_of};
 ghost use Rattle.recorded.specs.Compared.{unwritten, SameFrom, WroteOnly, bytes_kept_from, AnsweredAs, CreatedAsWritten, RanAsWritten, CaseAsWritten};
 ghost use Rattle.recorded.specs.Fresh.{Accepted};

@@ -56,12 +56,14 @@ pub enum Limit {
 }
 
 // A queue's list.
-fn list_of(q: QueueKind) -> ListKind
-    ensures { number result ≡ list_no (queue_kind q) }
-{
-    match q {
-        QueueKind::Small => ListKind::Small,
-        QueueKind::Main => ListKind::Main,
+impl From<QueueKind> for ListKind {
+    ghost from_gives = { λ q t. number t ≡ list_no (queue_kind q) };
+
+    fn from(q: QueueKind) -> ListKind {
+        match q {
+            QueueKind::Small => ListKind::Small,
+            QueueKind::Main => ListKind::Main,
+        }
     }
 }
 
@@ -78,7 +80,7 @@ pub fn len_of(s: &[u8], z: Shape, q: QueueKind) -> u64
     requires { Keeps z s.now }
     ensures { result ≡ length (queue_of (queue_kind q) (state_in z s.now)) }
 {
-    lists::length_of(s, z, list_of(q))
+    lists::length_of(s, z, ListKind::from(q))
 }
 
 // How many ghosts there are. A queue holds entries and the ghost list keys, so that what is said of the state is not one thing for both: one function for
@@ -95,7 +97,7 @@ pub fn tail_of(s: &[u8], z: Shape, q: QueueKind) -> usize
     requires { Keeps z s.now × (1 ≤ length (queue_of (queue_kind q) (state_in z s.now))) }
     ensures { Tail z s.now (queue_kind q) result }
 {
-    lists::tail_of(s, z, list_of(q))
+    lists::tail_of(s, z, ListKind::from(q))
 }
 
 // The oldest ghost, where there is one.
@@ -183,7 +185,7 @@ pub fn remove_at(s: &mut [u8], z: Shape, q: QueueKind, x: usize)
     requires { Keeps z s.old × Seated z s.old (queue_kind q) x }
     ensures { EntryRemoved z s.old s.new (queue_kind q) x }
 {
-    pool::release(s, z, list_of(q), x);
+    pool::release(s, z, ListKind::from(q), x);
 }
 
 // Moves node x of list t to Main's head. Where that is its own list no length and no tag changes, so its links alone are written.
@@ -203,7 +205,7 @@ pub fn reattach_main_head(s: &mut [u8], z: Shape, q: QueueKind, x: usize, n: usi
     requires { Keeps z s.old × Seated z s.old (queue_kind q) x × (n < 256) }
     ensures { Reattached z s.old s.new (queue_kind q) x n }
 {
-    move_to_main(s, z, list_of(q), x);
+    move_to_main(s, z, ListKind::from(q), x);
     nodes::set(s, z, Column::Freq, x, n);
 }
 
@@ -212,7 +214,7 @@ pub fn detach_to_ghosts(s: &mut [u8], z: Shape, q: QueueKind, x: usize)
     requires { Keeps z s.old × Seated z s.old (queue_kind q) x }
     ensures { DetachedToGhosts z s.old s.new (queue_kind q) x }
 {
-    pool::move_to(s, z, list_of(q), ListKind::Ghosts, x);
+    pool::move_to(s, z, ListKind::from(q), ListKind::Ghosts, x);
 }
 
 // A new pair goes to the head of a queue with frequency 0.
@@ -220,7 +222,7 @@ pub fn attach_head(s: &mut [u8], z: Shape, q: QueueKind, k: GuestBlock, v: Physi
     requires { Keeps z s.old × CanAttachHead z s.old k.0 }
     ensures { AttachedHead z s.old s.new (queue_kind q) k.0 v.0 }
 {
-    pool::fill(s, z, list_of(q), k.0, v.0);
+    pool::fill(s, z, ListKind::from(q), k.0, v.0);
 }
 
 // The ghost at a node is taken off.

@@ -32,7 +32,7 @@ pub enum Brought {
     Stopped(u64),
 }
 
-// What the bytes kept begin, with the piece behind them.
+// What the bytes kept begin, with the piece behind them. Each of the three has a step of its own behind it, and none is a refusal.
 #[derive(Clone, Copy)]
 pub enum Head {
     // A whole record of so many bytes; of none where no byte was kept.
@@ -56,7 +56,7 @@ fn written(offset: u64, stopped: bool, kept: &[u8]) -> [u8; rules::CARRY_BYTES]
     form
 }
 
-// Writes the record. The bytes kept are those of `from` from `at` on.
+// Writes the record. The bytes kept are those of `from` from `at` on; whether the stream has stopped is a byte of the record like the others.
 pub fn put(carry: &mut [u8], offset: u64, stopped: bool, from: &[u8], at: usize)
     requires { (carry_bytes ≤ length carry.old) × (at ≤ length from.now) × (length from.now ≤ at + kept_room) }
     ensures { CarryPut carry.old (record { offset = offset; kept = drop at from.now; stopped = stopped }) carry.new }
@@ -129,7 +129,8 @@ fn fill_head(kept: &[u8], piece: &[u8], head: &mut [u8]) -> usize
     count + more
 }
 
-// The record that the bytes kept begin, put together in the buffer with the piece's first bytes.
+// The record that the bytes kept begin, put together in the buffer with the piece's first bytes. `count` is what `read` said: a slice of the bytes kept
+// could not be handed on while `carry` is lent to be written.
 pub fn join(carry: &[u8], count: usize, piece: &[u8], head: &mut [u8]) -> Head
     requires { (carry_bytes ≤ length carry.now) × (count ≤ most_kept) × (waits (spot_at (kept_in carry.now count) 0) ≡ true)
         × (length head.old ≡ longest_record) }

@@ -113,7 +113,8 @@ fn step(s: &mut [u8], z: Shape) -> Option<Pushed>
     try_evict_from_queue(s, z, q)
 }
 
-// Steps until a pair has left. Each step that moves an entry lowers the sum of frequencies, so the loop ends.
+// Steps until a pair has left. Each step that moves an entry lowers the sum of frequencies, so the loop ends. The pops are counted, and index
+// nothing.
 fn evict(s: &mut [u8], z: Shape) -> Evicted
     requires { Held z s.old × (1 ≤ residents (state_in z s.old)) }
     ensures { Makes z s.old s.new (evict (state_in z s.old)) result }

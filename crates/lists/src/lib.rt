@@ -52,7 +52,8 @@ pub fn head_node_of(s: &[u8], z: Shape, t: ListKind) -> usize
     nodes::get(s, z, Column::Next, z.room + t.number())
 }
 
-// The oldest node of list t, and the list's sentinel where there is none.
+// The oldest node of list t, and the list's sentinel where there is none. It differs from the newest in the column alone: one function for both would be
+// `nodes::get`.
 pub fn tail_of(s: &[u8], z: Shape, t: ListKind) -> usize
     requires { Room z s.now }
     ensures { GetsField z s.now Field.Prev (z.room + number t) result }

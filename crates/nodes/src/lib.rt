@@ -15,7 +15,9 @@ const NODES: usize = 128;
 
 const SENTINELS: usize = 4;
 
-// How many nodes a store has, without the sentinels, and how many buckets.
+// How many nodes a store has, without the sentinels, and how many buckets. The bytes and their shape stand as two parameters everywhere. One struct of
+// both was tried through five crates: behind a `&mut` the shape is one more thing that each write has to promise to leave, clauses grow, and a node that
+// is freed and filled again took a tenth longer, since the fields are read again after each byte that is written (docs/DESIGN-PASS.md).
 #[derive(Clone, Copy)]
 pub struct Shape {
     pub room: usize,

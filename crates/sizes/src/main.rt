@@ -10,7 +10,7 @@ ghost use Rattle.sizes.specs.Lines.{sized_line, line_for};
 use sizing::Settings;
 use std::{fmt, io};
 
-// What a line says.
+// What a line says. Each of the three has a text of its own.
 #[derive(Clone, Copy)]
 enum Line {
     // A capacity, Small's limit and that of the ghosts.

@@ -39,7 +39,7 @@ pub struct Entry {
     pub freq: usize,
 }
 
-// Where a key stands: resident at a node, a ghost at a node, or neither.
+// Where a key stands: resident at a node, a ghost at a node, or neither. Callers go three ways, so that none of them is a lesser `None`.
 #[derive(Clone, Copy)]
 pub enum Lookup {
     Resident(QueueKind, usize),

@@ -146,7 +146,8 @@ pub fn next(s: &[u8], at: usize) -> Record
     }
 }
 
-// The walk over the records from an offset on: the reply room of those that are whole, and where and how it ends.
+// The walk over the records from an offset on: the reply room of those that are whole, and where and how it ends. A record says itself where the next one
+// begins, so there is no range to go over.
 pub fn survey_from(s: &[u8], start: usize) -> Survey
     requires { (start ≤ length s.now) × (length s.now ≤ most_request_bytes) }
     ensures { result ≡ surveyed (length s.now) (parse_from s.now start) }

@@ -162,16 +162,9 @@ class Tidy(unittest.TestCase):
             f"{path}:4: `low TwosLaws gone` names nothing (a line is: crate Module name -- reason)",
         )
 
-    def test_uncited(self):
-        law, path = "crates/low/proofs/TwosLaws.antt", "tools/uncited.txt"
-        lone = "\nlone : ℕ\nlone = zero\n"
-        self.expect({law: lone}, f"{law}:20: `lone` (definition) is referenced nowhere")
-        self.assertEqual(self.report({law: lone, path: "low TwosLaws lone\n"}), (0, ["tidy: ok"]))
-        self.expect(
-            {path: "low TwosLaws twice-is\nlow TwosLaws gone\n"},
-            f"{path}:1: `twice-is` is referenced anyway",
-            f"{path}:2: `low TwosLaws gone` names no law (a line is: crate Module name)",
-        )
+    def test_a_lone_law(self):
+        law = "crates/low/proofs/TwosLaws.antt"
+        self.expect({law: "\nlone : ℕ\nlone = zero\n"}, f"{law}:20: `lone` (definition) is referenced nowhere")
 
     def test_a_promise_in_proofs(self):
         path = "crates/low/proofs/TwosLaws.antt"

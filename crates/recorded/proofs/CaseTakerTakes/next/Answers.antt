@@ -10,4 +10,4 @@ pub returns-in_err-read : goal.returns-in_err-read
 returns-in_err-read g c = case_cut c.from_residual-in_err-read.ensures.0
 
 pub returns : goal.returns
-returns g c = case_read c.get32-n.result c.get32-m.result c.case_with.result c.case_with.ensures refl
+returns g c = case_read c.get-n.result c.get-m.result c.case_with.result c.case_with.ensures refl

@@ -19,6 +19,7 @@ GOOD = {
     "a statement": "`returns`: `search`: no proof of `Rattle.low.specs.Twos.Even c.args.n`",
     "a law's statement": "`kept`: `search`: no proof of `Rattle.low.proofs.TwosLaws.Halving n 2`",
     "an invariant": "`loop-preserved`: `search`: no proof of `Rattle.low.proofs.half.Invariants.invariant-loop l`",
+    "an invariant in a generic function": "`loop-i-preserved`: `search`: no proof of `goal.the-asks-loop-i-preserved g.row.W g.W.fits c` was found. Ev",
     "a bound": "`returns`: `search`: no proof of `Prim.Native.Nat.◌<◌ 7 (twice n)`",
     "an equation": "`returns`: `search`: no proof of `mathlib.Core.Path.◌≡◌ (twice n) 7`",
     "a sum": "`overflow`: `search`: no proof of `(borrow.Rule.Scalar.k-op2 Rattle.low.proofs.half.Lts.T10 mir.Syntax.add) .asks`",

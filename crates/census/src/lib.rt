@@ -1,5 +1,6 @@
 // The check of a key index in bytes that nobody vouches for (RULES 1.3): whether they index their live nodes. Heads and links may lead
-// anywhere. Nodes are counted: each is visited once and walked over at most once, so that no chosen keys make the check slow.
+// anywhere. Nodes are counted: each is visited once and walked over at most once, so that no chosen keys make the check slow. Of a node's tag only this
+// counts here: 0 says that it is free, and any other number that it is live. Which list a live node is in is for the crates above.
 #![tactic(auto)]
 
 ghost use Rattle.std.specs.Prelude.{◌<◌};

@@ -1,7 +1,8 @@
 // The key index of bounded size: which live node holds a key. It stands for the original's hash map,
 // in lent memory (RULES 1.3): a head for each bucket, and in each node a link to the next of its bucket,
 // in the order of their keys. The number of nodes ends a chain. It is a sentinel's: that leads to itself
-// and is free, so that of the end of a chain may be read what is read of a node.
+// and is free, so that of the end of a chain may be read what is read of a node. A tag of 0 says free, and any other live: which list a live node is in
+// is for the crates above.
 #![tactic(auto)]
 
 ghost use Rattle.std.specs.Prelude.{◌≡◌, ◌<◌};

@@ -55,7 +55,8 @@ fn put_spoken(replies: &mut [u8], at: usize, spoken: Spoken) -> usize
     wire::put_reply(replies, middle, spoken.closing)
 }
 
-// Carries out the requests from `at` on, in order, up to the end or to a record that is none, and writes their replies from `out` on.
+// Carries out the requests from `at` on, in order, up to the end or to a record that is none, and writes their replies from `out` on. A record says itself
+// where the next one begins, so there is no range to go over.
 pub fn run_from(
     store: &mut [u8],
     z: Shape,

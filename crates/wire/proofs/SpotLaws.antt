@@ -5,7 +5,7 @@ use native.Mathlib.Omega.{arith}
 use mathlib.Core.Path.{◌≡◌, refl, sym, ap, ap₂, ◌∙◌}
 use mathlib.Core.Bool.{Bool, true, false}
 use mathlib.Core.List.{List}
-use Rattle.std.specs.Prelude.{Option, Some, None}
+use Rattle.std.specs.Prelude.{Option, Some, None, Result, Ok, Err}
 use lib.ListN.{length, get_or, drop}
 use mir.Syntax.{w64}
 use mir.Val.{Fits}
@@ -16,9 +16,9 @@ use Rattle.rules.specs.Records.{Request}
 use Rattle.rules.specs.Bytes.{row, table, marks, find, Spot, at, unknown, cut, over, spot_at, made, Reading, ask, reading, reading_at}
 use Rattle.rules.proofs.TableLaws.{find-hit, find-miss, find-over, find_known, row-kind}
 use Rattle.rules.proofs.ParseLaws.{spot_lies}
-use Rattle.wire.specs.declared.Spot.{Spot as Spot·}
-use Rattle.wire.specs.declared.Spot.TheVariants.{At, Unknown, Cut, End}
-use Rattle.wire.specs.Wire.{spotted, Marked, Meets, Spots}
+use Rattle.wire.specs.declared.Stop.{Stop}
+use Rattle.wire.specs.declared.Stop.TheVariants.{Whole, Unknown, Cut}
+use Rattle.wire.specs.Wire.{spotted, meaning, Marked, Meets, Spots}
 
 -- ---- a mark, and the search along the table
 
@@ -50,17 +50,17 @@ module _ {s : List ℕ} {at i : ℕ} (g : Seeking s at i) where
 -- ---- the tests of what stands at an offset
 
 module _ {s : List ℕ} {i : ℕ} where
-  pub spot_end : length s ≤ i → Spots s i End
+  pub spot_end : length s ≤ i → Spots s i (Err Whole)
   unfolding spot_at
   spot_end h = record { is = rw (le-leb (length s) i h) }
 
   module _ (h : i < length s) where
-    pub spot_short : length s - i < 2 → Spots s i Cut
+    pub spot_short : length s - i < 2 → Spots s i (Err Cut)
     unfolding spot_at
     spot_short g = record { is = rw (lt-leb (length s) i h, lt-ltb (length s - i) 2 g) }
 
     module _ (g : 2 ≤ length s - i) {found : Option Row} (f : Meets s i found) where
-      pub spot_unknown : found ≡ None → Spots s i Unknown
+      pub spot_unknown : found ≡ None → Spots s i (Err Unknown)
       unfolding spot_at
       spot_unknown e =
           record { is = rw (lt-leb (length s) i h, le-ltb (length s - i) 2 g, sym f.is ∙ e) }
@@ -69,24 +69,24 @@ module _ {s : List ℕ} {i : ℕ} where
         met : seek s i table ≡ Some e
         met = sym f.is ∙ is
 
-        pub spot_cut : length s - i < e.bytes → Spots s i Cut
+        pub spot_cut : length s - i < e.bytes → Spots s i (Err Cut)
         unfolding spot_at
         spot_cut l = record { is = rw (lt-leb (length s) i h, le-ltb (length s - i) 2 g, met, lt-ltb (length s - i) e.bytes l) }
 
-        pub spot_found : e.bytes ≤ length s - i → Spots s i (At e)
+        pub spot_found : e.bytes ≤ length s - i → Spots s i (Ok e)
         unfolding spot_at
         spot_found l =
             let own : e ≡ row e.kind = find_known (get_or s i 0) (get_or s (i + 1) 0) e met in
-            record { is = rw (lt-leb (length s) i h, le-ltb (length s - i) 2 g, met, le-ltb (length s - i) e.bytes l) (ap At own) }
+            record { is = rw (lt-leb (length s) i h, le-ltb (length s - i) 2 g, met, le-ltb (length s - i) e.bytes l) (ap Ok own) }
 
 -- ---- what is read
 
 -- the spot that the code's stands for
-abbrev unspotted : Spot· → Spot
-unspotted (At e) = at e.kind
-unspotted Unknown = unknown
-unspotted Cut = cut
-unspotted End = over
+abbrev unspotted : Result Row Stop → Spot
+unspotted (Ok e) = at e.kind
+unspotted (Err Unknown) = unknown
+unspotted (Err Cut) = cut
+unspotted (Err Whole) = over
 
 spot_back : (p : Spot) → unspotted (spotted p) ≡ p
 spot_back (at k) = ap at (row-kind k)
@@ -94,20 +94,26 @@ spot_back unknown = refl
 spot_back cut = refl
 spot_back over = refl
 
-module _ {s : List ℕ} {i : ℕ} {p : Spot·} (f : Spots s i p) where
-  pub spot_is : (q : Spot·) → p ≡ q → spot_at s i ≡ unspotted q
+module _ {s : List ℕ} {i : ℕ} {p : Result Row Stop} (f : Spots s i p) where
+  pub spot_is : (q : Result Row Stop) → p ≡ q → spot_at s i ≡ unspotted q
   spot_is q is = sym (spot_back (spot_at s i)) ∙ ap unspotted (sym f.is ∙ is)
 
-  pub reads : {q : Spot·} → p ≡ q → {r : Reading Request} → r ≡ reading s i (unspotted q) → r ≡ reading_at s i
+  pub reads : {q : Result Row Stop} → p ≡ q → {r : Reading Request} → r ≡ reading s i (unspotted q) → r ≡ reading_at s i
   unfolding reading_at
   reads {q} is h = h ∙ ap (reading s i) (sym (spot_is q is))
 
-  module _ {e : Row} (is : p ≡ At e) where
+  -- no request is read
+  pub reads-none : {t : Stop} → p ≡ Err t → meaning (Err t) ≡ reading_at s i
+  reads-none {t = Unknown} is = reads is refl
+  reads-none {t = Cut} is = reads is refl
+  reads-none {t = Whole} is = reads is refl
+
+  module _ {e : Row} (is : p ≡ Ok e) where
     pub row_is : e ≡ row e.kind
-    row_is = let h : At e ≡ At (row e.kind) = sym is ∙ f.is ∙ ap spotted (spot_is (At e) is) in cc
+    row_is = let h : ◌≡◌ {A = Result Row Stop} (Ok e) (Ok (row e.kind)) = sym is ∙ f.is ∙ ap spotted (spot_is (Ok e) is) in cc
 
     pub kind-inside : i + (row e.kind).bytes ≤ length s
-    kind-inside = rw (spot_is (At e) is) at (spot_lies s i)
+    kind-inside = rw (spot_is (Ok e) is) at (spot_lies s i)
 
     pub spot_inside : i + e.bytes ≤ length s
     spot_inside = omega (arith, kind-inside, ap (λ x. x.bytes) row_is)

@@ -5,6 +5,7 @@ use native.Mathlib.Omega.{arith}
 use native.Mathlib.Nat.{zero-add, add-zero, add_assoc}
 use mathlib.Core.Path.{◌≡◌, refl, sym, ap, ◌∙◌}
 use mathlib.Core.List.{List}
+use Rattle.std.specs.Prelude.{Result, Ok, Err}
 use lib.ListN.{length}
 use mir.Syntax.{w64}
 use mir.Val.{Fits}
@@ -16,9 +17,8 @@ use Rattle.rules.specs.Refusals.{most_request_bytes}
 use Rattle.rules.proofs.TableLaws.{row-bytes, room-made}
 use Rattle.rules.proofs.ParseLaws.{Lies, spot_lies, parse-step}
 use Rattle.rules.specs.declared.Row.{Row}
-use Rattle.wire.specs.declared.Spot.{Spot as Spot·}
-use Rattle.wire.specs.declared.Spot.TheVariants.{At, Unknown, Cut, End as Over}
-use Rattle.wire.specs.declared.Stop.TheVariants.{Whole, Unknown as UnknownStop, Cut as CutStop}
+use Rattle.wire.specs.declared.Stop.{Stop}
+use Rattle.wire.specs.declared.Stop.TheVariants.{Whole, Unknown, Cut}
 use Rattle.wire.specs.declared.Survey.{Survey}
 use Rattle.wire.specs.Wire.{end_at, stop_of, surveyed, Spots}
 use Rattle.wire.proofs.SpotLaws.{spot_is, reads, row_is, spot_inside, read-request}
@@ -48,23 +48,19 @@ survey_start {s} {start} h = record {
   on = λ j. let v = surveyed (length s) (parse_from s start) in record { room = sym (zero-add v.room) j; at = v.at; stop = v.stop };
 }
 
-module _ {s : List ℕ} {start i n : ℕ} (g : Surveying s start i n) {p : Spot·} (f : Spots s i p) where
+module _ {s : List ℕ} {start i n : ℕ} (g : Surveying s start i n) {p : Result Row Stop} (f : Spots s i p) where
   turn : (r : Reading Request) → r ≡ reading_at s i → surveyed (length s) (parse_from s start) ≡ plus n (surveyed (length s) (on_reading (parse_from s) i r))
   turn r e = g.on ∙ ap (λ q. plus n (surveyed (length s) q)) (parse-step s i ∙ ap (on_reading (parse_from s) i) (sym e))
 
-  pub survey_unknown : p ≡ Unknown → record { room = n; at = i; stop = UnknownStop } ≡ surveyed (length s) (parse_from s start)
-  survey_unknown is = sym (turn strange (reads f is refl) ∙ stopped (length s) n (unknown_at i))
-
-  pub survey_cut : p ≡ Cut → record { room = n; at = i; stop = CutStop } ≡ surveyed (length s) (parse_from s start)
-  survey_cut is = sym (turn short (reads f is refl) ∙ stopped (length s) n (cut_at i))
-
-  pub survey_whole : p ≡ Over → record { room = n; at = i; stop = Whole } ≡ surveyed (length s) (parse_from s start)
-  survey_whole is =
-      let o : Lies s i over = rw (spot_is f Over is) at (spot_lies s i) in
+  pub survey_stop : {t : Stop} → p ≡ Err t → record { room = n; at = i; stop = t } ≡ surveyed (length s) (parse_from s start)
+  survey_stop {t = Unknown} is = sym (turn strange (reads f is refl) ∙ stopped (length s) n (unknown_at i))
+  survey_stop {t = Cut} is = sym (turn short (reads f is refl) ∙ stopped (length s) n (cut_at i))
+  survey_stop {t = Whole} is =
+      let o : Lies s i over = rw (spot_is f (Err Whole) is) at (spot_lies s i) in
       let e : length s ≡ i = omega (arith, g.within, o) in
       sym (turn end (reads f is refl) ∙ stopped (length s) n whole ∙ (λ j. record { room = n; at = e j; stop = Whole }))
 
-  module _ {e : Row} (is : p ≡ At e) where
+  module _ {e : Row} (is : p ≡ Ok e) where
     bounds : (2 ≤ e.bytes) × (e.room ≤ 18 * e.bytes)
     bounds = rw (row_is f is) (row-bytes e.kind)
 

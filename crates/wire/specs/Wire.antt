@@ -1,22 +1,18 @@
 -- The code's values in the terms of the rules: requests, replies, what stands at an offset, the survey; and what a writer promises.
 -- Assumes nothing.
-use Rattle.std.specs.Prelude.{ℕ, ◌+◌, ◌≡◌, Bool, List, ◌++◌, length, get_or, take, drop, Option}
+use Rattle.std.specs.Prelude.{ℕ, ◌+◌, ◌≡◌, Bool, List, ◌++◌, length, get_or, take, drop, Option, Result, Ok, Err}
 use Rattle.rules.specs.declared.Kind.{Kind}
 use Rattle.rules.specs.declared.Row.{Row}
 use Rattle.rules.specs.Records.{Request, GT, PK, RM, IN, EV, CL, Reply, MI, OK, HI, RE, NW, GO, EX, ES, EM}
 use Rattle.rules.specs.Bytes.{row, table, Spot, at, unknown, cut, over, marks, find, spot_at, made, Reading, ask, strange, short, end, End, whole, unknown_at}
 use Rattle.rules.specs.Bytes.{cut_at}
 use Rattle.rules.specs.Bytes.{Parsed, room_for}
-use Rattle.wire.specs.declared.Spot.{Spot as Spot·}
-use Rattle.wire.specs.declared.Spot.TheVariants.{At, Unknown, Cut, End as Over}
 use Rattle.wire.specs.declared.Request.{Request as Request·}
 use Rattle.wire.specs.declared.Request.TheVariants.{Get, Peek, Remove, Insert, Evict, Clear}
-use Rattle.wire.specs.declared.Record.{Record}
-use Rattle.wire.specs.declared.Record.TheVariants.{Ask, Unknown as Unknown·, Cut as Cut·, End as End·}
 use Rattle.wire.specs.declared.Reply.{Reply as Reply·}
 use Rattle.wire.specs.declared.Reply.TheVariants.{Miss, Cleared, Hit, Replaced, New, Gone, Handed, FromSmall, FromMain}
 use Rattle.wire.specs.declared.Stop.{Stop}
-use Rattle.wire.specs.declared.Stop.TheVariants.{Whole, Unknown as UnknownStop, Cut as CutStop}
+use Rattle.wire.specs.declared.Stop.TheVariants.{Whole, Unknown, Cut}
 use Rattle.wire.specs.declared.Survey.{Survey}
 
 -- the request that the code's is
@@ -41,17 +37,17 @@ told (FromSmall k v) = ES k.0 v.0
 told (FromMain k v) = EM k.0 v.0
 
 -- the code's form of what stands at an offset
-abbrev pub spotted : Spot → Spot·
-spotted (at k) = At (row k)
-spotted unknown = Unknown
-spotted cut = Cut
-spotted over = Over
+abbrev pub spotted : Spot → Result Row Stop
+spotted (at k) = Ok (row k)
+spotted unknown = Err Unknown
+spotted cut = Err Cut
+spotted over = Err Whole
 
-abbrev pub meaning : Record → Reading Request
-meaning (Ask q after) = ask (asked q) after
-meaning Unknown· = strange
-meaning Cut· = short
-meaning End· = end
+abbrev pub meaning : Result (Request· × ℕ) Stop → Reading Request
+meaning (Ok w) = ask (asked w.0) w.1
+meaning (Err Unknown) = strange
+meaning (Err Cut) = short
+meaning (Err Whole) = end
 
 -- ---- what a reader promises of the bytes at an offset
 
@@ -64,7 +60,7 @@ pub record Meets (s : List ℕ) (i : ℕ) (r : Option Row) : Type 0 where
   pub is : r ≡ find (get_or s i 0) (get_or s (i + 1) 0) table
 
 -- what stands there
-pub record Spots (s : List ℕ) (i : ℕ) (r : Spot·) : Type 0 where
+pub record Spots (s : List ℕ) (i : ℕ) (r : Result Row Stop) : Type 0 where
   pub is : r ≡ spotted (spot_at s i)
 
 -- the request of kind k whose record starts there
@@ -81,8 +77,8 @@ end_at n (cut_at i) = i
 
 abbrev pub stop_of : End → Stop
 stop_of whole = Whole
-stop_of (unknown_at i) = UnknownStop
-stop_of (cut_at i) = CutStop
+stop_of (unknown_at i) = Unknown
+stop_of (cut_at i) = Cut
 
 abbrev pub surveyed : ℕ → Parsed Request → Survey
 surveyed n p = record { room = room_for p.requests; at = end_at n p.end; stop = stop_of p.end }

@@ -32,31 +32,14 @@ pub enum Reply {
     FromMain(GuestBlock, PhysicalBlock),
 }
 
-// What stands at an offset, by its mark and its length.
+// Why no request stands at an offset: how the walk over all records ends.
 #[derive(Clone, Copy)]
-enum Spot {
-    At(Row),
+pub enum Stop {
+    // The end of the bytes: all records are whole.
+    Whole,
     // A mark that no row has.
     Unknown,
     // A record whose bytes are not all there.
-    Cut,
-    End,
-}
-
-// What stands at an offset: a request with the offset after it, or why there is none.
-#[derive(Clone, Copy)]
-pub enum Record {
-    Ask(Request, usize),
-    Unknown,
-    Cut,
-    End,
-}
-
-// How the walk over all records ends.
-#[derive(Clone, Copy)]
-pub enum Stop {
-    Whole,
-    Unknown,
     Cut,
 }
 
@@ -90,26 +73,23 @@ fn find_row(s: &[u8], at: usize) -> Option<Row>
     None
 }
 
-// What stands at an offset.
-fn spot_at(s: &[u8], at: usize) -> Spot
+// What stands at an offset, by its mark and its length: the row of a record all of whose bytes are there.
+fn spot_at(s: &[u8], at: usize) -> Result<Row, Stop>
     ensures { Spots s.now at result }
 {
     if s.len() <= at {
-        return Spot::End;
+        return Err(Stop::Whole);
     }
     if s.len() - at < 2 {
-        return Spot::Cut;
+        return Err(Stop::Cut);
     }
-    let found = find_row(s, at);
-    match found {
-        None => Spot::Unknown,
-        Some(row) => {
-            if s.len() - at < row.bytes {
-                return Spot::Cut;
-            }
-            Spot::At(row)
-        }
+    let Some(row) = find_row(s, at) else {
+        return Err(Stop::Unknown);
+    };
+    if s.len() - at < row.bytes {
+        return Err(Stop::Cut);
     }
+    Ok(row)
 }
 
 // The request of a record all of whose bytes are there.
@@ -130,20 +110,12 @@ fn request_at(s: &[u8], at: usize, kind: Kind) -> Request
     }
 }
 
-// The record at an offset.
-pub fn next(s: &[u8], at: usize) -> Record
+// The request at an offset, with the offset after it.
+pub fn next(s: &[u8], at: usize) -> Result<(Request, usize), Stop>
     ensures { meaning result ≡ reading_at s.now at }
 {
-    let spot = spot_at(s, at);
-    match spot {
-        Spot::At(row) => {
-            let request = request_at(s, at, row.kind);
-            Record::Ask(request, at + row.bytes)
-        }
-        Spot::Unknown => Record::Unknown,
-        Spot::Cut => Record::Cut,
-        Spot::End => Record::End,
-    }
+    let row = spot_at(s, at)?;
+    Ok((request_at(s, at, row.kind), at + row.bytes))
 }
 
 // The walk over the records from an offset on: the reply room of those that are whole, and where and how it ends. A record says itself where the next one
@@ -155,18 +127,13 @@ pub fn survey_from(s: &[u8], start: usize) -> Survey
     let mut at = start;
     let mut room = 0;
     loop {
-        let spot = spot_at(s, at);
-        let stop = match spot {
-            Spot::At(row) => {
+        match spot_at(s, at) {
+            Ok(row) => {
                 at += row.bytes;
                 room += row.room;
-                continue;
             }
-            Spot::Unknown => Stop::Unknown,
-            Spot::Cut => Stop::Cut,
-            Spot::End => Stop::Whole,
-        };
-        return Survey { room, at, stop };
+            Err(stop) => return Survey { room, at, stop },
+        }
     }
 }
 

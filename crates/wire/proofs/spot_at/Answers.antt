@@ -14,8 +14,8 @@ returns-then-s-at-lt2 c = search laws
 pub returns-then-s-at-2 : goal.returns-then-s-at-2
 returns-then-s-at-2 c = search laws
 
-pub returns-in-None : goal.returns-in-None
-returns-in-None c = search laws
+pub returns-in_default : goal.returns-in_default
+returns-in_default c = search laws
 
-pub returns-else-s-at-2 : goal.returns-else-s-at-2
-returns-else-s-at-2 c = search laws
+pub returns : goal.returns
+returns c = search laws

@@ -22,8 +22,8 @@ use Rattle.rules.specs.Bytes.{spot_at, reading_at}
 use Rattle.rules.proofs.CouldLaws.{and_both, and-true, waits-few, nothing-kept, could-even, could-stop, could-wait, could-few, stop-could, wait-could}
 use Rattle.rules.proofs.HeadLaws.{pending, read-pending}
 use Rattle.rules.proofs.CarryLaws.{carry-length, shown, only-shown, count-shown}
-use Rattle.wire.specs.declared.Record.{Record}
-use Rattle.wire.specs.declared.Record.TheVariants.{Ask, Unknown, Cut, End}
+use Rattle.wire.specs.declared.Stop.{Stop}
+use Rattle.wire.specs.declared.Stop.TheVariants.{Whole, Unknown, Cut}
 use Rattle.wire.specs.declared.Request.{Request as Request·}
 use Rattle.wire.specs.Wire.{meaning}
 use Rattle.carry.specs.declared.Brought.{Brought}
@@ -33,7 +33,7 @@ use Rattle.carry.specs.Carries.{kept_in, carried_by, LaidOut, Halts, GoesOn, Bri
 
 -- ---- the judgement of a stream that goes on
 
-module _ (o : ℕ) (k : List ℕ) (r : Record) (e : meaning r ≡ reading_at k 0) where
+module _ (o : ℕ) (k : List ℕ) (r : Result (Request· × ℕ) Stop) (e : meaning r ≡ reading_at k 0) where
   -- whether the bytes kept wait is said by what was read of them
   kept-waits : waits (spot_at k 0) ≡ pending (meaning r)
   kept-waits = read-pending k (meaning r) (sym e)
@@ -46,15 +46,22 @@ module _ (o : ℕ) (k : List ℕ) (r : Record) (e : meaning r ≡ reading_at k 0
   goes_on : pending (meaning r) ≡ true → length k ≤ 18446744073709551615 - o → o < 2 ^ 64 → GoesOn o k (Ok (Going o (length k)))
   goes_on h l f = record { is = rw (kept-waits, h, le-leb (o + length k) last_offset (omega arith)) }
 
-  -- a whole record is kept, or a mark that no request has
-  pub goes-known : ((q : Request·) × (after : ℕ) × (r ≡ Ask q after)) ⊎ (r ≡ Unknown) → GoesOn o k (Err BadCarry)
-  goes-known (inl w) = goes-not (ap (λ (x : Record). pending (meaning x)) w.2)
-  goes-known (inr f) = goes-not (ap (λ (x : Record). pending (meaning x)) f)
+  -- a whole record is kept
+  pub goes-known : {w : Request· × ℕ} → r ≡ Ok w → GoesOn o k (Err BadCarry)
+  goes-known h = goes-not (ap (λ x. pending (meaning x)) h)
 
-  -- a record that is cut, or nothing
-  pub goes_cut : (r ≡ Cut) ⊎ (r ≡ End) → length k ≤ 18446744073709551615 - o → o < 2 ^ 64 → GoesOn o k (Ok (Going o (length k)))
-  goes_cut (inl f) = goes_on (ap (λ (x : Record). pending (meaning x)) f)
-  goes_cut (inr f) = goes_on (ap (λ (x : Record). pending (meaning x)) f)
+  module _ {t : Stop} (h : r ≡ Err t) where
+    now : {u : Stop} → t ≡ u → pending (meaning r) ≡ pending (meaning (Err u))
+    now f = ap (λ x. pending (meaning x)) (h ∙ ap Err f)
+
+    -- a mark that no request has
+    pub goes-unknown : t ≡ Unknown → GoesOn o k (Err BadCarry)
+    goes-unknown f = goes-not (now f)
+
+    -- a record that is cut, or nothing
+    pub goes_cut : (t ≡ Cut) ⊎ (t ≡ Whole) → length k ≤ 18446744073709551615 - o → o < 2 ^ 64 → GoesOn o k (Ok (Going o (length k)))
+    goes_cut (inl f) = goes_on (now f)
+    goes_cut (inr f) = goes_on (now f)
 
 -- ---- the tests
 

@@ -1,26 +1,27 @@
 -- The laws of the record that was cut: the buffer is filled with its bytes, and what is read there says what the bytes kept begin.
 -- Assumes nothing.
 use mathlib.Core.Path.{◌≡◌, refl, sym, ap, ap₂, subst, ◌∙◌}
-use mathlib.Core.Bool.{true}
-use mathlib.Core.List.{List, [], ◌++◌, append_assoc, append-nil}
+use mathlib.Core.Bool.{true, false, true≢false}
+use mathlib.Core.List.{List, [], ◌∷◌, ◌++◌, append_assoc, append-nil}
 use Prim.Native.Nat.{ℕ, ◌+◌, ◌-◌, ◌≤◌, ◌<◌, min}
 use native.Mathlib.Nat.{add-zero}
 use native.Mathlib.Omega.{arith}
+use Rattle.std.specs.Prelude.{Result, Ok, Err}
+use lib.Dec.{eqb}
+use borrow.Author.Tests.{eq-eqb}
 use lib.ListN.{length, take, drop, length-append, length-drop, drop_of_length-le}
 use lib.Seq.{take_all, length-take-le, take-take, take_at, take-append-add, take-length, drop_at}
 use Rattle.rules.specs.Bytes.{longest_record, ask, strange, short, spot_at, reading_at, unknown_at, ends, walk, parse_from, parse}
-use Rattle.rules.specs.Carry.{most_kept, waits, left_by, carry_bytes}
+use Rattle.rules.specs.Carry.{most_kept, waits, left_by}
 use Rattle.rules.specs.Records.{Request}
 use Rattle.rules.proofs.ParseLaws.{read_goes}
 use Rattle.rules.proofs.FeedLaws.{end-end}
 use Rattle.rules.proofs.HeadLaws.{front_read, short-few, short-parse, strange-parse, past_kept, past_within, join_requests, join_left}
-use Rattle.wire.specs.declared.Record.{Record}
-use Rattle.wire.specs.declared.Record.TheVariants.{Ask, Unknown as Unknown·, Cut as Cut·, End}
+use Rattle.wire.specs.declared.Stop.{Stop}
+use Rattle.wire.specs.declared.Stop.TheVariants.{Whole as All, Unknown as Strange, Cut as Short}
 use Rattle.wire.specs.declared.Request.{Request as Request·}
 use Rattle.wire.specs.Wire.{asked, meaning}
 use Rattle.carry.specs.declared.Head.TheVariants.{Whole, Cut, Unknown}
-use Rattle.carry.specs.Carries.{kept_in}
-use Rattle.carry.proofs.FormLaws.{kept-part}
 use Rattle.carry.specs.Heads.{Completes, StillCut, HeadJoins, HeadFilled}
 
 -- ---- the buffer
@@ -109,17 +110,12 @@ none-completes piece head = record {
 }
 
 -- the answer then
-pub joins-none : (bs piece head : List ℕ) (count : ℕ) → count ≡ 0 → HeadJoins (kept_in bs count) piece head (Whole 0)
-joins-none bs piece head count e = subst (λ (n : ℕ). HeadJoins (kept_in bs n) piece head (Whole 0)) (sym e) (whole-joins 0 (none-completes piece head))
+pub joins-none : (kept piece head : List ℕ) → length kept ≡ 0 → HeadJoins kept piece head (Whole 0)
+joins-none [] piece head e = whole-joins 0 (none-completes piece head)
+joins-none (b ∷ kept) piece head e = absurd (omega arith)
 
-module _ (bs : List ℕ) (count : ℕ) {piece head : List ℕ} {n : ℕ} (filling : HeadFilled (take (10 + count - 10) (drop 10 bs)) piece head n)
-    (r : Record) (e : meaning r ≡ reading_at (take n head) 0) where
-  abbrev kept : List ℕ
-  kept = kept_in bs count
-
-  f : HeadFilled kept piece head n
-  f = subst (λ (l : List ℕ). HeadFilled l piece head n) (kept-part bs count) filling
-
+module _ {kept piece head : List ℕ} {n : ℕ} (f : HeadFilled kept piece head n)
+    (r : Result (Request· × ℕ) Stop) (e : meaning r ≡ reading_at (take n head) 0) where
   -- what was read of the first bytes of all
   front : reading_at (take n (kept ++ piece)) 0 ≡ meaning r
   front = sym (e ∙ ap (λ (l : List ℕ). reading_at l 0) f.bytes)
@@ -145,10 +141,10 @@ module _ (bs : List ℕ) (count : ℕ) {piece head : List ℕ} {n : ℕ} (fillin
       }
 
   -- the four answers, by what was read
-  pub joins-whole : waits (spot_at kept 0) ≡ true → {q : Request·} {after : ℕ} → r ≡ Ask q after → HeadJoins kept piece head (Whole after)
+  pub joins-whole : waits (spot_at kept 0) ≡ true → {q : Request·} {after : ℕ} → r ≡ Ok (q, after) → HeadJoins kept piece head (Whole after)
   joins-whole w {q} {after} g = whole-joins after (completes w (asked q) after (front ∙ ap meaning g))
 
-  pub joins-cut : r ≡ Cut· → HeadJoins kept piece head (Cut n)
+  pub joins-cut : r ≡ Err Short → HeadJoins kept piece head (Cut n)
   joins-cut g =
       let a : reading_at (take n (kept ++ piece)) 0 ≡ short = front ∙ ap meaning g in
       let few : n < longest_record = omega (arith, short-few (take n (kept ++ piece)) a, front_length) in
@@ -160,13 +156,13 @@ module _ (bs : List ℕ) (count : ℕ) {piece head : List ℕ} {n : ℕ} (fillin
         cut = short-parse (kept ++ piece) (ap (λ (l : List ℕ). reading_at l 0) (sym all) ∙ a);
       })
 
-  pub joins-unknown : r ≡ Unknown· → HeadJoins kept piece head Unknown
+  pub joins-unknown : r ≡ Err Strange → HeadJoins kept piece head Unknown
   joins-unknown g = unknown-joins (strange-parse (kept ++ piece) (front_read n (kept ++ piece) strange (front ∙ ap meaning g) tt))
 
   -- nothing is read only where nothing was kept
-  none_kept : r ≡ End → length kept ≡ 0
+  none_kept : r ≡ Err All → length kept ≡ 0
   none_kept g = omega (arith, end-end (take n (kept ++ piece)) 0 (front ∙ ap meaning g), front_length, f.begun)
 
   -- and where bytes were kept there is something to read
-  pub joins-end : carry_bytes ≤ length bs → count ≤ most_kept → (count ≡ 0 → ⊥) → r ≡ End → HeadJoins kept piece head (Whole 0)
-  joins-end long few some g = absurd (some (omega (arith, none_kept g, length-take-le count (drop 10 bs) (omega (arith, length-drop 10 bs)))))
+  pub joins-end : eqb (length kept) 0 ≡ false → r ≡ Err All → HeadJoins kept piece head (Whole 0)
+  joins-end some g = absurd (true≢false (sym (eq-eqb (length kept) 0 (none_kept g)) ∙ some))

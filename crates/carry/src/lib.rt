@@ -9,7 +9,7 @@ ghost use Rattle.carry.specs.Carries.{kept_in, LaidOut, Halts, GoesOn, Brings, C
 ghost use Rattle.carry.specs.Heads.{HeadFilled, HeadJoins};
 
 use rules::Turned;
-use wire::Record;
+use wire::Stop;
 
 // Where the number of bytes kept stands, the byte that says whether the stream has stopped, and the first of the bytes kept. The offset is in front.
 const COUNT_AT: usize = 8;
@@ -83,10 +83,12 @@ fn judge_going(offset: u64, kept: &[u8]) -> Result<Brought, Turned>
     if u64::MAX - offset < count as u64 {
         return Err(Turned::BadCarry);
     }
-    let record = wire::next(kept, 0);
-    match record {
-        Record::Ask(_, _) | Record::Unknown => Err(Turned::BadCarry),
-        Record::Cut | Record::End => Ok(Brought::Going(offset, count)),
+    match wire::next(kept, 0) {
+        Ok(_) => Err(Turned::BadCarry),
+        Err(stop) => match stop {
+            Stop::Unknown => Err(Turned::BadCarry),
+            Stop::Cut | Stop::Whole => Ok(Brought::Going(offset, count)),
+        },
     }
 }
 
@@ -129,23 +131,28 @@ fn fill_head(kept: &[u8], piece: &[u8], head: &mut [u8]) -> usize
     count + more
 }
 
-// The record that the bytes kept begin, put together in the buffer with the piece's first bytes. `count` is what `read` said: a slice of the bytes kept
-// could not be handed on while `carry` is lent to be written.
-pub fn join(carry: &[u8], count: usize, piece: &[u8], head: &mut [u8]) -> Head
-    requires { (carry_bytes ≤ length carry.now) × (count ≤ most_kept) × (waits (spot_at (kept_in carry.now count) 0) ≡ true)
-        × (length head.old ≡ longest_record) }
-    ensures { HeadJoins (kept_in carry.now count) piece.now head.new result }
+// The bytes kept, in the bytes lent: as many as `read` said.
+pub fn kept(carry: &[u8], count: usize) -> &[u8]
+    requires { (carry_bytes ≤ length carry.now) × (count ≤ most_kept) }
+    ensures { result.now ≡ kept_in carry.now count }
 {
-    if count == 0 {
+    &carry[KEPT_AT..KEPT_AT + count]
+}
+
+// The record that the bytes kept begin, put together in the buffer with the piece's first bytes.
+pub fn join(kept: &[u8], piece: &[u8], head: &mut [u8]) -> Head
+    requires { (length kept.now ≤ most_kept) × (waits (spot_at kept.now 0) ≡ true) × (length head.old ≡ longest_record) }
+    ensures { HeadJoins kept.now piece.now head.new result }
+{
+    if kept.is_empty() {
         return Head::Whole(0);
     }
-    let n = fill_head(&carry[KEPT_AT..KEPT_AT + count], piece, head);
-    let record = wire::next(&head[..n], 0);
-    match record {
-        Record::Ask(_, after) => Head::Whole(after),
-        Record::Unknown => Head::Unknown,
-        Record::Cut => Head::Cut(n),
+    let n = fill_head(kept, piece, head);
+    match wire::next(&head[..n], 0) {
+        Ok((_, after)) => Head::Whole(after),
+        Err(Stop::Unknown) => Head::Unknown,
+        Err(Stop::Cut) => Head::Cut(n),
         // Not met: there are bytes.
-        Record::End => Head::Whole(0),
+        Err(Stop::Whole) => Head::Whole(0),
     }
 }

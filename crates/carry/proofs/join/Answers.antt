@@ -5,17 +5,17 @@ use Rattle.carry.proofs.join.Goals as goal
 
 ruleset laws = (rules, joins-none, joins-whole, joins-unknown, joins-cut, joins-end)
 
-pub returns-then-count-eq0 : goal.returns-then-count-eq0
-returns-then-count-eq0 c = search laws
+pub returns-then-is_empty : goal.returns-then-is_empty
+returns-then-is_empty c = search laws
 
-pub returns-in-Ask : goal.returns-in-Ask
-returns-in-Ask c = search laws
+pub returns-in-Ok : goal.returns-in-Ok
+returns-in-Ok c = search laws
 
-pub returns-in-Unknown : goal.returns-in-Unknown
-returns-in-Unknown c = search laws
+pub returns-in-Err-Unknown : goal.returns-in-Err-Unknown
+returns-in-Err-Unknown c = search laws
 
-pub returns-in-Cut : goal.returns-in-Cut
-returns-in-Cut c = search laws
+pub returns-in-Err-Cut : goal.returns-in-Err-Cut
+returns-in-Err-Cut c = search laws
 
-pub returns-in-End : goal.returns-in-End
-returns-in-End c = search laws
+pub returns-in-Err-Whole : goal.returns-in-Err-Whole
+returns-in-Err-Whole c = search laws

@@ -181,8 +181,13 @@ module _ {bs : List ℕ} {o n : ℕ} (b : Brings bs (Ok (Going o n))) where
   pub brings_few : n ≤ most_kept
   brings_few = lent.going_few b refl
 
-  pub brings_waits : waits (spot_at (kept_in bs n) 0) ≡ true
-  brings_waits = lent.going_waits b refl
+  -- the bytes kept, once they are lent for themselves
+  module _ {k : List ℕ} (of : k ≡ kept_in bs n) where
+    pub kept_few : length k ≤ most_kept
+    kept_few = omega (arith, ap length of, lent.going_kept b refl, brings_few)
+
+    pub kept-waits : waits (spot_at k 0) ≡ true
+    kept-waits = ap (λ (l : List ℕ). waits (spot_at l 0)) of ∙ lent.going_waits b refl
 
 -- no request was carried out
 none-ran : {z : Shape} {s p c c' : List ℕ} {k : Carry} → Held z s → CarryPut c k c' → FedRan z s s c c' p p [] k 0
@@ -201,7 +206,11 @@ none-ran {p = p} h u =
       put = u.is;
     }
 
-module _ {bs : List ℕ} {o n : ℕ} (b : Brings bs (Ok (Going o n))) {piece head : List ℕ} {r : Head} (j : HeadJoins (kept_in bs n) piece head r) where
+module _ {bs : List ℕ} {o n : ℕ} (b : Brings bs (Ok (Going o n))) {k : List ℕ} (of : k ≡ kept_in bs n) {piece head : List ℕ} {r : Head}
+    (joins : HeadJoins k piece head r) where
+  j : HeadJoins (kept_in bs n) piece head r
+  j = subst (λ (l : List ℕ). HeadJoins l piece head r) of joins
+
   abbrev all : List ℕ
   all = kept_in bs n ++ piece
 

@@ -6,7 +6,7 @@ use Prim.Native.Nat.{ℕ, ◌+◌, ◌-◌, ◌≤◌, ◌<◌}
 use native.Mathlib.Omega.{arith}
 use native.Mathlib.Nat.{add-zero}
 use lib.ListN.{length, take, drop, length-append, take-append-drop}
-use Rattle.std.specs.Prelude.{Option, Some, None}
+use Rattle.std.specs.Prelude.{Option, Some, None, Result, Ok, Err}
 use Rattle.cells.specs.Cells.{Bytes}
 use Rattle.nodes.specs.Nodes.{Rest, cols}
 use Rattle.nodes.specs.declared.Shape.{Shape}
@@ -21,8 +21,8 @@ use Rattle.cells.proofs.MembersLaws.{every-left, every_right}
 use Rattle.rules.proofs.ParseLaws.{parse-step, parse-sized-from, read_goes}
 use Rattle.wire.specs.declared.Reply.{Reply as Reply·}
 use Rattle.wire.specs.declared.Request.{Request as Request·}
-use Rattle.wire.specs.declared.Record.{Record}
-use Rattle.wire.specs.declared.Record.TheVariants.{Ask, Unknown, Cut, End as Over}
+use Rattle.wire.specs.declared.Stop.{Stop}
+use Rattle.wire.specs.declared.Stop.TheVariants.{Whole, Unknown, Cut}
 use Rattle.wire.specs.Wire.{asked, told, meaning, splice, Wrote}
 use Rattle.wire.specs.CarriedOut.{HasRoom}
 use Rattle.wire.proofs.SpliceLaws.{wrote-wrote, wrote-length}
@@ -114,7 +114,7 @@ module _ {z : Shape} {s₀ s q : List ℕ} {at₀ : ℕ} {p₀ p : List ℕ} {ou
   midway_held = m.held
 
   -- one request is read
-  module _ {x : Record} (read : meaning x ≡ reading_at q at) {k : Request·} {after : ℕ} (is : x ≡ Ask k after) where
+  module _ {x : Result (Request· × ℕ) Stop} (read : meaning x ≡ reading_at q at) {k : Request·} {after : ℕ} (is : x ≡ Ok (k, after)) where
     e : ask (asked k) after ≡ reading_at q at
     e = ap meaning (sym is) ∙ read
 
@@ -162,12 +162,12 @@ module _ {z : Shape} {s₀ s q : List ℕ} {at₀ : ℕ} {p₀ p : List ℕ} {ou
       }
 
   -- nothing more is read, whatever ends the records
-  pub midway_over : (x : Record) → meaning x ≡ reading_at q at → ((k : Request·) (after : ℕ) → x ≡ Ask k after → ⊥)
+  pub midway_over : (x : Result (Request· × ℕ) Stop) → meaning x ≡ reading_at q at → ((w : Request· × ℕ) → x ≡ Ok w → ⊥)
       → Runs z s₀ s (parse_from q at₀).requests p₀ p out₀ out
-  midway_over (Ask k after) read d = absurd (d k after refl)
-  midway_over Unknown read d = ended read refl
-  midway_over Cut read d = ended read refl
-  midway_over Over read d = ended read refl
+  midway_over (Ok w) read d = absurd (d w refl)
+  midway_over (Err Unknown) read d = ended read refl
+  midway_over (Err Cut) read d = ended read refl
+  midway_over (Err Whole) read d = ended read refl
 
 -- ---- one run after the other
 

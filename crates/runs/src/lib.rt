@@ -19,7 +19,7 @@ use evict::Pushed;
 use requests::Spoken;
 use rules::Turned;
 use store::{QueueKind, Shape};
-use wire::{Record, Reply, Stop};
+use wire::{Reply, Stop};
 
 // What a feed that was not turned away answers.
 #[derive(Clone, Copy)]
@@ -72,7 +72,7 @@ pub fn run_from(
 {
     let mut from = at;
     let mut end = out;
-    while let Record::Ask(q, after) = wire::next(requests, from) {
+    while let Ok((q, after)) = wire::next(requests, from) {
         let spoken = requests::apply(store, z, q);
         end = put_spoken(replies, end, spoken);
         from = after;
@@ -151,7 +151,7 @@ pub fn feed_going(
         (left_by offset (kept_in carry.old count ++ piece.now) (parse (kept_in carry.old count ++ piece.now)).end) result }
 {
     let mut head = [0u8; carry::HEAD_BYTES];
-    match carry::join(carry, count, piece, &mut head) {
+    match carry::join(carry::kept(carry, count), piece, &mut head) {
         Head::Cut(n) => {
             carry::put(carry, offset, false, &head[0..n], 0);
             Ok(Fed::Done(0))

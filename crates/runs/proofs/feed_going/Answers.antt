@@ -1,11 +1,14 @@
 -- `runs::feed_going` meets its contract.
 use borrow.Author.Rules.{rules}
-use Rattle.runs.proofs.PieceLaws.{brings_long, brings_few, brings_waits, cut-part, going_cut, going_unknown}
+use Rattle.runs.proofs.PieceLaws.{brings_long, brings_few, kept_few, kept-waits, cut-part, going_cut, going_unknown}
 use Rattle.runs.proofs.PieceLaws.{whole_part, whole-begun, going_whole}
 use Rattle.runs.proofs.feed_going.Goals as goal
 
+pub kept-requires : goal.kept-requires
+kept-requires c = (search brings_long, search brings_few)
+
 pub join-requires : goal.join-requires
-join-requires c = (search brings_long, search brings_few, search brings_waits, search rules)
+join-requires c = (search kept_few, search kept-waits, search rules)
 
 pub slice_bounds-put-end : goal.slice_bounds-put-end
 slice_bounds-put-end c = search cut-part

@@ -36,7 +36,7 @@ pub enum QueueKind {
 pub struct Entry {
     pub key: GuestBlock,
     pub value: PhysicalBlock,
-    pub freq: usize,
+    pub freq: u8,
 }
 
 // Where a key stands: resident at a node, a ghost at a node, or neither. Callers go three ways, so that none of them is a lesser `None`.
@@ -108,7 +108,8 @@ pub fn oldest_of(s: &[u8], z: Shape) -> usize
     lists::tail_of(s, z, ListKind::Ghosts)
 }
 
-// One walk along the key's chain tells all three apart, since residents and ghosts share the index.
+// One walk along the key's chain tells all three apart, since residents and ghosts share the index. A node that the index holds is in one of the three
+// lists, so that what is neither a ghost nor in Small is in Main.
 pub fn look(s: &[u8], z: Shape, k: GuestBlock) -> Lookup
     requires { Held z s.now }
     ensures { Looks z s.now k.0 result }
@@ -134,7 +135,7 @@ pub fn entry_at(s: &[u8], z: Shape, x: usize) -> Entry
     Entry {
         key: GuestBlock(nodes::get64(s, z, Column::Key, x)),
         value: PhysicalBlock(nodes::get64(s, z, Column::Value, x)),
-        freq: nodes::get(s, z, Column::Freq, x),
+        freq: nodes::get(s, z, Column::Freq, x) as u8,
     }
 }
 
@@ -164,20 +165,20 @@ pub fn check_lists_and_index(s: &[u8], z: Shape) -> bool
 }
 
 // The entry at a node gets another frequency.
-pub fn set_freq(s: &mut [u8], z: Shape, x: usize, n: usize)
-    requires { Keeps z s.old × (x < z.room) × (n < 256) }
+pub fn set_freq(s: &mut [u8], z: Shape, x: usize, n: u8)
+    requires { Keeps z s.old × (x < z.room) }
     ensures { FreqSet z s.old s.new x n }
 {
-    nodes::set(s, z, Column::Freq, x, n);
+    nodes::set(s, z, Column::Freq, x, n as usize);
 }
 
 // The entry at a node gets another value and another frequency.
-pub fn replace(s: &mut [u8], z: Shape, x: usize, v: PhysicalBlock, n: usize)
-    requires { Keeps z s.old × (x < z.room) × (n < 256) }
+pub fn replace(s: &mut [u8], z: Shape, x: usize, v: PhysicalBlock, n: u8)
+    requires { Keeps z s.old × (x < z.room) }
     ensures { ValueReplaced z s.old s.new x v.0 n }
 {
     nodes::set64(s, z, Column::Value, x, v.0);
-    nodes::set(s, z, Column::Freq, x, n);
+    nodes::set(s, z, Column::Freq, x, n as usize);
 }
 
 // The entry of a queue at a node leaves; the node is free.
@@ -201,12 +202,12 @@ fn move_to_main(s: &mut [u8], z: Shape, t: ListKind, x: usize)
 }
 
 // The entry of a queue at a node goes to Main's head with another frequency.
-pub fn reattach_main_head(s: &mut [u8], z: Shape, q: QueueKind, x: usize, n: usize)
-    requires { Keeps z s.old × Seated z s.old (queue_kind q) x × (n < 256) }
+pub fn reattach_main_head(s: &mut [u8], z: Shape, q: QueueKind, x: usize, n: u8)
+    requires { Keeps z s.old × Seated z s.old (queue_kind q) x }
     ensures { Reattached z s.old s.new (queue_kind q) x n }
 {
     move_to_main(s, z, ListKind::from(q), x);
-    nodes::set(s, z, Column::Freq, x, n);
+    nodes::set(s, z, Column::Freq, x, n as usize);
 }
 
 // The entry of a queue at a node leaves, and the node becomes the newest ghost: its key is in the index already.

@@ -44,7 +44,7 @@ fn is_cool(s: &[u8], z: Shape, x: usize) -> bool
     ensures { Decides (Cool z s.now x) result }
 {
     let entry = store::entry_at(s, z, x);
-    entry.freq <= rules::MAX_FREQ as usize || !store::holds_resident(s, z, x)
+    entry.freq <= rules::MAX_FREQ || !store::holds_resident(s, z, x)
 }
 
 // Whether every node is so.

@@ -49,10 +49,9 @@ fn victim(s: &[u8], z: Shape) -> QueueKind
 }
 
 // The frequency, above 0, of an entry that goes back becomes 0 from Small, and one less from Main.
-fn cooled(q: QueueKind, freq: usize) -> usize
-    requires { (0 < freq) × (freq < 256) }
-    ensures value { result ≡ cool_to (queue_kind q) freq }
-    ensures upper_bound { result < 256 }
+fn cooled(q: QueueKind, freq: u8) -> u8
+    requires { 0 < freq }
+    ensures { result ≡ cool_to (queue_kind q) freq }
 {
     match q {
         QueueKind::Small => 0,

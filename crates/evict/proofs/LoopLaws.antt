@@ -1,6 +1,7 @@
 -- The laws of the loop: what is still to come completes the whole, and F falls.
 -- Assumes nothing.
 use mathlib.Core.Path.{◌≡◌, refl, sym, ap, ◌∙◌}
+use mathlib.Core.Bool.{Bool, true, false, true≢false}
 use mathlib.Core.List.{List, [], ◌∷◌}
 use Prim.Native.Nat.{ℕ, ◌+◌, ◌*◌, ◌≤◌, ◌<◌}
 use native.Mathlib.Omega.{arith}
@@ -10,9 +11,10 @@ use borrow.Author.Tests.{le-leb, lt-leb}
 use mir.Syntax.{w64}
 use mir.Val.{Fits}
 use Rattle.std.specs.Prelude.{Option, Some, None}
+use Rattle.std.specs.Option.{is_some}
 use Rattle.nodes.specs.declared.Shape.{Shape}
 use Rattle.rules.specs.State.{Entry, Queue, max_freq, most, fresh, residents, one, warmth}
-use Rattle.rules.specs.Eviction.{moved, left, step, evict, evict_if_full, tell}
+use Rattle.rules.specs.Eviction.{moved, step, evict, evict_if_full, tell}
 use Rattle.rules.proofs.PartsLaws.{length-total}
 use Rattle.rules.proofs.EngineLaws.{after, after-moved, evict-left}
 use Rattle.rules.proofs.EvictionLaws.{Moves, step_law, moves-total, moves_colder}
@@ -51,40 +53,45 @@ module _ {z : Shape} {s₀ s : List ℕ} {n : ℕ} (g : Going z s₀ s n) where
   pub going_few : n < 65536
   going_few = omega (arith, g.few)
 
-  module _ {s₁ : List ℕ} {r : Option Pushed} (t : Steps z s s₁ r) where
-    module _ (e : r ≡ None) where
-      turn_is : step (state_in z s) ≡ moved t.popped (state_in z s₁)
-      turn_is = t.turn ∙ rw e
+  -- no pair left: the tail went to Main's head
+  turned_to : {s₁ : List ℕ} (r : Option Pushed) (t : Steps z s s₁ r) → is_some r ≡ false → step (state_in z s) ≡ moved t.popped (state_in z s₁)
+  turned_to None t e = t.turn
+  turned_to (Some p) t e = absurd (true≢false e)
 
-      moves : Moves (state_in z s) t.popped (state_in z s₁)
-      moves = rw turn_is at (step_law (state_in z s))
+  module _ {s₁ : List ℕ} {r : Option Pushed} (t : Steps z s s₁ r) {b : Bool} (a : b ≡ is_some r) (e : b ≡ false) where
+    turn_is : step (state_in z s) ≡ moved t.popped (state_in z s₁)
+    turn_is = turned_to r t (sym a ∙ e)
 
-      cooler : warmth (state_in z s₁) < warmth (state_in z s)
-      cooler = moves_colder g.held.sound.fine moves
+    moves : Moves (state_in z s) t.popped (state_in z s₁)
+    moves = rw turn_is at (step_law (state_in z s))
 
-      pub going_next : length s₁ ≡ length s → Going z s₀ s₁ (n + 1)
-      going_next l =
-          record {
-            held = t.held;
-            some = omega (arith, g.some, moves-total one (λ p y. refl) moves);
-            on = g.on ∙ after-moved n (state_in z s) (state_in z s₁) t.popped g.held.sound.fine g.some turn_is;
-            few = omega (arith, g.few, cooler);
-            rest = t.rest ∙ g.rest;
-            same = l ∙ g.same;
-          }
+    cooler : warmth (state_in z s₁) < warmth (state_in z s)
+    cooler = moves_colder g.held.sound.fine moves
 
-      pub going_less : heat z s₁ < heat z s
-      unfolding heat
-      going_less = cooler
+    pub going_next : length s₁ ≡ length s → Going z s₀ s₁ (n + 1)
+    going_next l =
+        record {
+          held = t.held;
+          some = omega (arith, g.some, moves-total one (λ p y. refl) moves);
+          on = g.on ∙ after-moved n (state_in z s) (state_in z s₁) t.popped g.held.sound.fine g.some turn_is;
+          few = omega (arith, g.few, cooler);
+          rest = t.rest ∙ g.rest;
+          same = l ∙ g.same;
+        }
 
-    pub going_end : {p : Pushed} → r ≡ Some p → (w : Evicted·) → w.pushed ≡ Some p → w.pops ≡ n + 1 → Makes z s₀ s₁ (evict (state_in z s₀)) w
-    going_end {p} e w m c =
-        let q : Queue = queue_kind p.from in
-        let y : Entry = fresh p.key.0 p.value.0 in
-        let turn : step (state_in z s) ≡ left q y (state_in z s₁) = t.turn ∙ rw e in
-        let all : evict (state_in z s₀) ≡ record { state = state_in z s₁; told = tell q y ∷ []; pops = n + 1 } =
-        g.on ∙ ap (after n) (evict-left (state_in z s) (state_in z s₁) q y g.held.sound.fine g.some turn) in
-        rw all (record { becomes = record { keeps = t.held.keeps; state = refl; rest = t.rest ∙ g.rest }; told = ap pushed_of m; pops = c })
+    pub going_less : heat z s₁ < heat z s
+    unfolding heat
+    going_less = cooler
+
+  pub going_end : {s₁ : List ℕ} (r : Option Pushed) → Steps z s s₁ r → {b : Bool} → b ≡ is_some r → b ≡ true
+      → (w : Evicted·) → w.pushed ≡ r → w.pops ≡ n + 1 → Makes z s₀ s₁ (evict (state_in z s₀)) w
+  going_end None t a e w m c = absurd (true≢false (sym e ∙ a))
+  going_end {s₁} (Some p) t a e w m c =
+      let q : Queue = queue_kind p.from in
+      let y : Entry = fresh p.key.0 p.value.0 in
+      let all : evict (state_in z s₀) ≡ record { state = state_in z s₁; told = tell q y ∷ []; pops = n + 1 } =
+      g.on ∙ ap (after n) (evict-left (state_in z s) (state_in z s₁) q y g.held.sound.fine g.some t.turn) in
+      rw all (record { becomes = record { keeps = t.held.keeps; state = refl; rest = t.rest ∙ g.rest }; told = ap pushed_of m; pops = c })
 
 -- ---- eviction where the cache is full
 

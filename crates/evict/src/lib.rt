@@ -122,11 +122,8 @@ fn evict(s: &mut [u8], z: Shape) -> Evicted
     loop {
         let left = step(s, z);
         pops += 1;
-        if let Some(pair) = left {
-            return Evicted {
-                pushed: Some(pair),
-                pops,
-            };
+        if left.is_some() {
+            return Evicted { pushed: left, pops };
         }
     }
 }

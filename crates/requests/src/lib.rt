@@ -2,7 +2,7 @@
 // give it. A key is looked up once a request. No request fails on a store that holds a sound state, and no number stands for "none".
 #![tactic(auto)]
 
-ghost use Rattle.std.specs.Prelude.{◌≡◌, ◌+◌, ◌<◌, min};
+ghost use Rattle.std.specs.Prelude.{◌≡◌, ◌+◌, min};
 ghost use Rattle.rules.specs.State.{max_freq};
 ghost use Rattle.rules.specs.Records.{Request};
 ghost use Rattle.store.specs.Holds.{Held};
@@ -34,14 +34,14 @@ fn alone(closing: Reply) -> Spoken
 }
 
 // A frequency raised: one more, at most the highest.
-fn raised(freq: usize) -> usize
-    ensures value { result ≡ min max_freq (freq + 1) }
-    ensures upper_bound { result < 256 }
+fn raised(freq: u8) -> u8
+    ensures { result ≡ min max_freq (freq + 1) }
 {
-    if freq < rules::MAX_FREQ as usize {
-        return freq + 1;
+    if freq < rules::MAX_FREQ {
+        freq + 1
+    } else {
+        rules::MAX_FREQ
     }
-    rules::MAX_FREQ as usize
 }
 
 // Lookup: the value, and the frequency raised. No list is reordered.

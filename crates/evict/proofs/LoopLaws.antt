@@ -55,7 +55,7 @@ module _ {z : Shape} {s₀ s : List ℕ} {n : ℕ} (g : Going z s₀ s n) where
 
   -- no pair left: the tail went to Main's head
   turned_to : {s₁ : List ℕ} (r : Option Pushed) (t : Steps z s s₁ r) → is_some r ≡ false → step (state_in z s) ≡ moved t.popped (state_in z s₁)
-  turned_to None t e = t.turn
+  turned_to None t e = t.on.turn
   turned_to (Some p) t e = absurd (true≢false e)
 
   module _ {s₁ : List ℕ} {r : Option Pushed} (t : Steps z s s₁ r) {b : Bool} (a : b ≡ is_some r) (e : b ≡ false) where
@@ -71,11 +71,11 @@ module _ {z : Shape} {s₀ s : List ℕ} {n : ℕ} (g : Going z s₀ s n) where
     pub going_next : length s₁ ≡ length s → Going z s₀ s₁ (n + 1)
     going_next l =
         record {
-          held = t.held;
+          held = t.on.held;
           some = omega (arith, g.some, moves-total one (λ p y. refl) moves);
           on = g.on ∙ after-moved n (state_in z s) (state_in z s₁) t.popped g.held.sound.fine g.some turn_is;
           few = omega (arith, g.few, cooler);
-          rest = t.rest ∙ g.rest;
+          rest = t.on.rest ∙ g.rest;
           same = l ∙ g.same;
         }
 
@@ -90,8 +90,8 @@ module _ {z : Shape} {s₀ s : List ℕ} {n : ℕ} (g : Going z s₀ s n) where
       let q : Queue = queue_kind p.from in
       let y : Entry = fresh p.key.0 p.value.0 in
       let all : evict (state_in z s₀) ≡ record { state = state_in z s₁; told = tell q y ∷ []; pops = n + 1 } =
-      g.on ∙ ap (after n) (evict-left (state_in z s) (state_in z s₁) q y g.held.sound.fine g.some t.turn) in
-      rw all (record { becomes = record { keeps = t.held.keeps; state = refl; rest = t.rest ∙ g.rest }; told = ap pushed_of m; pops = c })
+      g.on ∙ ap (after n) (evict-left (state_in z s) (state_in z s₁) q y g.held.sound.fine g.some t.on.turn) in
+      rw all (record { becomes = record { keeps = t.on.held.keeps; state = refl; rest = t.on.rest ∙ g.rest }; told = ap pushed_of m; pops = c })
 
 -- ---- eviction where the cache is full
 

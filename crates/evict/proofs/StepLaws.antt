@@ -3,6 +3,7 @@
 use mathlib.Core.Path.{◌≡◌, sym, ap, ap₂, ◌∙◌}
 use mathlib.Core.List.{List, [], append-nil}
 use Prim.Native.Nat.{ℕ}
+use native.Mathlib.Omega.{arith}
 use Rattle.std.specs.Prelude.{Option, Some, None}
 use Rattle.nodes.specs.declared.Shape.{Shape}
 use Rattle.rules.specs.State.{State, Small, Main, set_queue}
@@ -17,7 +18,7 @@ use Rattle.store.proofs.LookLaws.{tail_seated}
 use Rattle.ghost_list.specs.Ghosts.{RecordedTail}
 use Rattle.evict.specs.declared.Cold.{Cold}
 use Rattle.evict.specs.declared.Pushed.{Pushed}
-use Rattle.evict.specs.Evicts.{Picks, PopsTail, Steps, Leaves}
+use Rattle.evict.specs.Evicts.{Picks, PopsTail, StepsOn, Leaves}
 use Rattle.evict.proofs.PopLaws.{cold-wanted}
 
 -- ---- what leaves
@@ -39,7 +40,7 @@ seated_main q e t = rw e at (tail_seated t)
 
 module _ {z : Shape} {s : List ℕ} (h : Held z s) (q : QueueKind) (v : Picks z s (queue_kind q)) {s₁ : List ℕ} {r : Option Cold}
     (p : PopsTail z s s₁ (queue_kind q) r) where
-  pub steps-moved : r ≡ None → {a : Option Pushed} → a ≡ None → Steps z s s₁ a
+  pub steps-moved : r ≡ None → {a : Option Pushed} → a ≡ None → StepsOn z s s₁ (queue_kind q) a
   steps-moved e i =
       let σ : State = state_in z s in
       let w = p.went e in
@@ -47,13 +48,13 @@ module _ {z : Shape} {s : List ℕ} (h : Held z s) (q : QueueKind) (v : Picks z 
       step-moves σ (queue_kind q) p.before p.entry v.picked p.tail_is w.warm in
       record {
         held = record { keeps = w.becomes.keeps; sound = rw w.becomes.state (moved-sound n h.sound) };
-        popped = queue_kind q;
         turn = rw i (n ∙ ap (moved (queue_kind q)) (sym w.becomes.state));
+        from = λ p j. let n : ◌≡◌ {A = ℕ} 0 1 = cc in absurd (omega arith);
         rest = w.becomes.rest;
       }
 
   pub steps-left : {d : Cold} → r ≡ Some d → {s₂ : List ℕ} → Leaves z s₁ s₂ (queue_kind q) d.node
-      → (a : Pushed) → a.from ≡ q → a.key ≡ d.key → a.value ≡ d.value → Steps z s s₂ (Some a)
+      → (a : Pushed) → a.from ≡ q → a.key ≡ d.key → a.value ≡ d.value → StepsOn z s s₂ (queue_kind q) (Some a)
   steps-left {d} e {s₂} m₀ a f k u =
       let σ : State = state_in z s in
       let c = p.stays d e in
@@ -63,7 +64,7 @@ module _ {z : Shape} {s : List ℕ} (h : Held z s) (q : QueueKind) (v : Picks z 
       let b = m.of p.before p.entry c.seat in
       record {
         held = record { keeps = b.keeps; sound = rw b.state (left-sound n h.sound) };
-        popped = queue_kind q;
         turn = rw (f, k, u) (n ∙ ap₂ (left (queue_kind q)) c.pair (sym b.state));
+        from = λ p j. let same : a ≡ p = cc in ap queue_kind (ap (λ (y : Pushed). y.from) (sym same) ∙ f);
         rest = b.rest;
       }

@@ -53,12 +53,17 @@ pub record PopsTail (z : Shape) (s s' : List ℕ) (q : Queue) (r : Option Cold) 
 
 -- ---- eviction
 
+-- one step on the queue q: its tail went to Main's head, or left
+pub record StepsOn (z : Shape) (s s' : List ℕ) (q : Queue) (r : Option Pushed) : Type 0 where
+  pub held : Held z s'
+  pub turn : step (state_in z s) ≡ turn_of q r (state_in z s')
+  pub from : (p : Pushed) → r ≡ Some p → queue_kind p.from ≡ q
+  pub rest : rest_in z s' ≡ rest_in z s
+
 -- one step
 pub record Steps (z : Shape) (s s' : List ℕ) (r : Option Pushed) : Type 0 where
-  pub held : Held z s'
   pub popped : Queue
-  pub turn : step (state_in z s) ≡ turn_of popped r (state_in z s')
-  pub rest : rest_in z s' ≡ rest_in z s
+  pub on : StepsOn z s s' popped r
 
 -- an eviction, or what stands in its place
 pub record Makes (z : Shape) (s s' : List ℕ) (w : Evicted) (r : Evicted·) : Type 0 where

@@ -7,7 +7,7 @@ ghost use Rattle.rules.specs.State.{queue_of, residents};
 ghost use Rattle.rules.specs.Eviction.{evict, evict_if_full};
 ghost use Rattle.store.specs.Holds.{state_in, Held};
 ghost use Rattle.store.specs.Seats.{queue_kind, Tail};
-ghost use Rattle.evict.specs.Evicts.{cool_to, Picks, PopsTail, Steps, Makes, Leaves};
+ghost use Rattle.evict.specs.Evicts.{cool_to, Picks, PopsTail, StepsOn, Steps, Makes, Leaves};
 
 use rules::{GuestBlock, PhysicalBlock};
 use store::{Limit, QueueKind, Shape};
@@ -92,7 +92,7 @@ fn leave(s: &mut [u8], z: Shape, q: QueueKind, x: usize)
 // The tail of the queue that was picked goes to Main's head, or it leaves and is told.
 fn try_evict_from_queue(s: &mut [u8], z: Shape, q: QueueKind) -> Option<Pushed>
     requires { Held z s.old × Picks z s.old (queue_kind q) × (1 ≤ length (queue_of (queue_kind q) (state_in z s.old))) }
-    ensures { Steps z s.old s.new result }
+    ensures { StepsOn z s.old s.new (queue_kind q) result }
 {
     let cold = pop_tail(s, z, q)?;
     leave(s, z, q, cold.node);

@@ -32,6 +32,7 @@ pub fn try_read_full<R: Read>(from: &mut R, buf: &mut [u8]) -> Result<usize, Cut
     ensures bytes_cut { IfErr result (λ c. Consumes (R.remaining from.old) (R.remaining from.new) (take c.0 buf.new)) }
 {
     let mut done = 0;
+    // What a read brings is not known before, so there is no range to go over.
     while done < buf.len() {
         match from.read(&mut buf[done..]) {
             Ok(0) => return Ok(done),

@@ -39,15 +39,15 @@ number-wrote {p} {p₁} {p₂} {a} {m} w n x e h =
     } in
     wrote-wrote x y (omega (arith, x.end, bytes-length w n))
 
-nothing-wrote : (p : List ℕ) → Wrote p 0 [] p 0
+-- bytes in front
+front-wrote : {p p₁ : List ℕ} (m : List ℕ) → p₁ ≡ m ++ drop (length m) p → Wrote p 0 m p₁ (length m)
 unfolding splice
-nothing-wrote p = record { bytes = refl; end = refl }
+front-wrote {p} m e = record { bytes = e ∙ ap (λ (k : ℕ). m ++ drop k p) (sym (zero-add (length m))); end = sym (zero-add (length m)) }
 
-pub refusal_wrote : {p p₁ p₂ p₃ p₄ : List ℕ} (n d : ℕ) → no_bytes ≤ length p
-    → p₁ ≡ put_le 1 p 0 78 → p₂ ≡ put_le 1 p₁ 1 79 → p₃ ≡ put_le 1 p₂ 2 n → p₄ ≡ put_le 8 p₃ 3 d → Wrote p 0 (no_record n d) p₄ 11
+pub refusal_wrote : {p p₁ p₂ p₃ : List ℕ} (n d : ℕ) → no_bytes ≤ length p → p₁ ≡ mark 78 79 ++ drop 2 p → p₂ ≡ put_le 1 p₁ 2 n → p₃ ≡ put_le 8 p₂ 3 d
+    → Wrote p 0 (no_record n d) p₃ 11
 unfolding bytes_of
-refusal_wrote {p} n d h e₁ e₂ e₃ e₄ =
-    number-wrote 8 d (number-wrote 1 n (number-wrote 1 79 (number-wrote 1 78 (nothing-wrote p) e₁ (omega arith)) e₂ (omega arith)) e₃ (omega arith)) e₄ h
+refusal_wrote {p} n d h e₁ e₂ e₃ = number-wrote 8 d (number-wrote 1 n (front-wrote (mark 78 79) e₁) e₂ (omega arith)) e₃ h
 
 -- ---- what an answer comes to
 

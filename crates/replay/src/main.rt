@@ -26,24 +26,18 @@ const MOST_INPUT_BYTES: usize = 32795;
 // The mark of a refusal.
 const NO: [u8; 2] = *b"NO";
 
-// Writes the record of a refusal with this number and detail.
-fn put_no(out: &mut [u8], number: u8, detail: u64) -> usize
-    requires { no_bytes ≤ length out.old }
-    ensures { Wrote out.old 0 (no_record number detail) out.new result }
-{
-    cells::put::<1>(out, 0, NO[0] as u64);
-    cells::put::<1>(out, 1, NO[1] as u64);
-    cells::put::<1>(out, 2, number as u64);
-    cells::put::<8>(out, 3, detail);
-    11
-}
+// The mark, the number in one byte, and the detail in 8.
+const NO_BYTES: usize = 11;
 
 // Writes the record of a refusal.
 fn put_refusal(out: &mut [u8], turned: Turned) -> usize
     requires { no_bytes ≤ length out.old }
     ensures { Wrote out.old 0 (no_record (number_of turned) (detail_of turned)) out.new result }
 {
-    put_no(out, turned.number(), turned.detail())
+    cells::copy(&NO, out);
+    cells::put::<1>(out, 2, turned.number() as u64);
+    cells::put::<8>(out, 3, turned.detail());
+    NO_BYTES
 }
 
 // Creates a cache in the store, and runs all requests on it as one call: the replies stand at the start of what was lent for them.

@@ -5,9 +5,8 @@
 // there is no list, that is said, and the run is over.
 #![tactic(auto)]
 
-ghost use Rattle.std.specs.Prelude.{◌≤◌, ◌≡◌, length, IfSome, IfOk};
+ghost use Rattle.std.specs.Prelude.{◌≤◌, ◌≡◌, IfSome, IfOk};
 ghost use Rattle.rules.specs.State.{most};
-ghost use Rattle.rules.specs.Refusals.{store_bytes};
 ghost use Rattle.ghost_list.specs.Ghosts.{GhostsAlone};
 ghost use Rattle.ghosts.specs.Operations.{wants_of, wanted_in, Opened, Taken};
 
@@ -18,6 +17,9 @@ use store::Shape;
 
 // A letter and a number.
 const RECORD_BYTES: usize = 9;
+
+// The bytes that a list stands in, as many as a store needs.
+type StoreBytes = [u8; intake::LARGE_BYTES];
 
 // What the list can do.
 #[derive(Clone, Copy)]
@@ -66,8 +68,8 @@ impl fmt::Display for BadRecord {
 }
 
 // A new and empty list, which is a store whose capacity no resident takes up.
-fn begin(s: &mut [u8], limit: u64) -> Shape
-    requires { (store_bytes ≤ length s.old) × (limit ≤ most) }
+fn begin(s: &mut StoreBytes, limit: u64) -> Shape
+    requires { limit ≤ most }
     ensures { Opened s.new limit result }
 {
     let limits = Limits {
@@ -125,8 +127,7 @@ fn say(rt: &impl Print, line: impl fmt::Display + Drop) {
 }
 
 // A new list, whatever stood in the store before.
-fn open(rt: &impl Print, s: &mut [u8], limit: u64) -> Result<Shape, BadRecord>
-    requires { store_bytes ≤ length s.old }
+fn open(rt: &impl Print, s: &mut StoreBytes, limit: u64) -> Result<Shape, BadRecord>
     ensures { IfOk result (λ z. GhostsAlone z s.new) }
 {
     if rules::MOST < limit {
@@ -140,11 +141,11 @@ fn open(rt: &impl Print, s: &mut [u8], limit: u64) -> Result<Shape, BadRecord>
 // One record, on the list if there is one: only a new one will do where there is none.
 fn turn(
     rt: &impl Print,
-    s: &mut [u8],
+    s: &mut StoreBytes,
     list: Option<Shape>,
     record: &[u8],
 ) -> Result<Shape, BadRecord>
-    requires { (store_bytes ≤ length s.old) × IfSome list (λ z. GhostsAlone z s.old) }
+    requires { IfSome list (λ z. GhostsAlone z s.old) }
     ensures { IfOk result (λ z. GhostsAlone z s.new) }
 {
     match read(record).ok_or(BadRecord)? {
@@ -158,8 +159,7 @@ fn turn(
 }
 
 // All records, the last of which may be cut; and the list that they leave.
-fn turns(rt: &impl Print, s: &mut [u8], input: &[u8]) -> Result<Option<Shape>, BadRecord>
-    requires { store_bytes ≤ length s.old }
+fn turns(rt: &impl Print, s: &mut StoreBytes, input: &[u8]) -> Result<Option<Shape>, BadRecord>
     ensures { IfOk result (λ o. IfSome o (λ z. GhostsAlone z s.new)) }
 {
     let mut list = None;

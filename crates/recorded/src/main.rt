@@ -30,7 +30,7 @@ const UNTOUCHED: u8 = 165;
 struct Broken;
 
 // An answer as the files have it: the refusal's number and detail, or 0, 0 and the number of reply bytes.
-#[derive(Clone, Copy)]
+#[derive(Clone, Copy, PartialEq, Eq)]
 struct Told {
     number: u32,
     detail: u64,
@@ -48,7 +48,7 @@ enum Act {
 
 // No step has this kind.
 #[derive(Clone, Copy)]
-struct NoAct(u32);
+struct NoAct;
 
 // A step. One that fills makes all bytes of the store the byte `number`; one that lays puts the input into it at `room`; one that creates does so with the
 // settings in the input; one that runs takes the input's requests, with `room` bytes for replies. A call is lent the first `store` bytes, and must answer
@@ -106,7 +106,7 @@ impl From<Result<usize, Turned>> for Told {
     }
 }
 
-// Reads exactly n bytes to the start of buf.
+// Reads exactly n bytes to the start of buf: a file that has fewer, or wants more than buf has, is broken.
 fn read_part<R: io::Read>(from: &mut R, buf: &mut [u8], n: usize) -> Result<(), Broken>
     ensures { IfOk result (λ x. n ≤ length buf.new) }
 {
@@ -131,7 +131,7 @@ fn read_head<const N: usize, R: io::Read>(from: &mut R) -> Result<Option<[u8; N]
     Ok(Some(head))
 }
 
-// Whether a and b are the same from a place on.
+// Whether a and b are the same from a place on: both must reach to it, since a slice can be cut no further.
 fn same_from(a: &[u8], b: &[u8], from: usize) -> bool
     ensures { Decides (SameFrom a.now b.now from) result }
 {
@@ -149,14 +149,7 @@ fn all_are(s: &[u8], byte: u8) -> bool
 fn wrote_only(out: &[u8], wanted: &[u8]) -> bool
     ensures { Decides (WroteOnly out.now wanted.now) result }
 {
-    let n = wanted.len();
-    if out.len() < n {
-        return false;
-    }
-    if !cells::same(&out[..n], wanted) {
-        return false;
-    }
-    all_are(&out[n..], UNTOUCHED)
+    out.starts_with(wanted) && all_are(&out[wanted.len()..], UNTOUCHED)
 }
 
 // Makes all bytes for replies untouched.
@@ -177,18 +170,15 @@ fn kept_from(t: Told) -> usize
     }
 }
 
-// Creates in the first n bytes of the store.
+// Creates in the first n bytes of the store: it lends those alone, and tells the answer.
 fn create_in(store: &mut [u8], n: usize, settings: Settings) -> Told
     requires { n ≤ length store.old }
     ensures { CreatedIn n settings store.old result store.new }
 {
-    match S3FifoCache::create(settings, &mut store[..n]) {
-        Ok(()) => Told::from(Ok(0)),
-        Err(why) => Told::from(Err(why)),
-    }
+    Told::from(S3FifoCache::create(settings, &mut store[..n]).map(|()| 0))
 }
 
-// Runs on the first n bytes of the store, with the first m bytes for replies.
+// Runs on the first n bytes of the store, with the first m bytes for replies: it lends those alone, and tells the answer.
 fn run_in(store: &mut [u8], n: usize, requests: &[u8], out: &mut [u8], m: usize) -> Told
     requires { (n ≤ length store.old) × (m ≤ length out.old) }
     ensures { RanIn n m store.old requests.now out.old result store.new out.new }
@@ -200,17 +190,14 @@ fn run_in(store: &mut [u8], n: usize, requests: &[u8], out: &mut [u8], m: usize)
 fn lay(store: &mut [u8], at: usize, piece: &[u8]) -> bool
     ensures { Laid at piece.now store.old store.new result }
 {
-    if store.len() < at {
-        return false;
-    }
-    if store.len() - at < piece.len() {
+    if store.len() < at || store.len() - at < piece.len() {
         return false;
     }
     cells::copy(piece, &mut store[at..]);
     true
 }
 
-// Whether a creation answers the number, and keeps of the store what it should.
+// Whether a creation answers the number, and keeps of the store what it should: it compares the number, and the store from where it is kept.
 fn created_as(number: u32, t: Told, before: &[u8], store: &[u8]) -> bool
     ensures { Decides (CreatedAsWritten number t before.now store.now) result }
 {
@@ -221,10 +208,15 @@ fn created_as(number: u32, t: Told, before: &[u8], store: &[u8]) -> bool
 fn answered(number: u32, detail: u64, count: usize, t: Told) -> bool
     ensures { Decides (AnsweredAs number detail count t) result }
 {
-    t.number == number && t.detail == detail && t.count == count
+    t == Told {
+        number,
+        detail,
+        count,
+    }
 }
 
-// Whether it also writes the output and nothing else, and keeps of the store what it should.
+// Whether it also writes the output and nothing else, and keeps of the store what it should: it compares all of the answer, all bytes for replies, and
+// the store from where it is kept.
 fn ran_as(s: Step, output: &[u8], t: Told, out: &[u8], before: &[u8], store: &[u8]) -> bool
     ensures { Decides (RanAsWritten s output.now t out.now before.now store.now) result }
 {
@@ -233,7 +225,7 @@ fn ran_as(s: Step, output: &[u8], t: Told, out: &[u8], before: &[u8], store: &[u
         && same_from(before, store, kept_from(t))
 }
 
-// Whether a case's call answers that all went well, and writes the output and nothing else.
+// Whether a case's call answers that all went well, and writes the output and nothing else: it compares the answer and all bytes for replies.
 fn case_as(output: &[u8], t: Told, out: &[u8]) -> bool
     ensures { Decides (CaseAsWritten output.now t out.now) result }
 {
@@ -279,10 +271,7 @@ impl Bench {
     fn run_step(&mut self, s: Step, input: &[u8], output: &[u8]) -> bool
         ensures { RunStepped s input.now output.now self.old.store (length self.old.out) result self.new.store }
     {
-        if self.store.len() < s.store {
-            return false;
-        }
-        if self.out.len() < s.room {
+        if self.store.len() < s.store || self.out.len() < s.room {
             return false;
         }
         self.prepare();
@@ -355,7 +344,7 @@ impl TryFrom<u32> for Act {
             1 => Ok(Act::Lay),
             2 => Ok(Act::Create),
             3 => Ok(Act::Run),
-            _ => Err(NoAct(n)),
+            _ => Err(NoAct),
         }
     }
 }
@@ -376,6 +365,8 @@ fn step_of(head: &[u8]) -> Step
     }
 }
 
+// There is no heap, so the buffers are as long for every case or step, and how much of them one has are numbers from its head: `step_with` and
+// `case_with` make slices of these, and what they call takes slices alone.
 impl Part {
     // Reads n bytes of input, and after them m bytes of output.
     fn read<R: io::Read>(&mut self, from: &mut R, n: usize, m: usize) -> Result<(), Broken>
@@ -493,10 +484,7 @@ fn turn<T: Takes, R: io::Read>(
 ) -> Result<Option<Tally>, Broken>
     ensures { TurnTaken T.goes t part.new.input part.new.output bench.old.store (length bench.old.out) result bench.new.store }
 {
-    match T::next(from, part, bench)? {
-        Some(well) => Ok(Some(t.counted(well))),
-        None => Ok(None),
-    }
+    Ok(T::next(from, part, bench)?.map(|well| t.counted(well)))
 }
 
 // All of a file; what does not agree is named, by its number in the file from 1 on, as soon as it is met. Nothing says that a file ends, so the turns have

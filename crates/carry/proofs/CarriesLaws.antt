@@ -28,7 +28,6 @@ use Rattle.wire.specs.declared.Request.{Request as Request·}
 use Rattle.wire.specs.Wire.{meaning}
 use Rattle.carry.specs.declared.Brought.{Brought}
 use Rattle.carry.specs.declared.Brought.TheVariants.{Going, Stopped}
-use Rattle.carry.proofs.FormLaws.{kept-part}
 use Rattle.carry.specs.Carries.{kept_in, carried_by, LaidOut, Halts, GoesOn, Brings}
 
 -- ---- the judgement of a stream that goes on
@@ -86,21 +85,17 @@ module _ (bs : List ℕ) where
   few-kept : length (shown bs).kept ≤ get_or bs 8 0
   few-kept = omega (arith, length-take (get_or bs 8 0) (drop 10 bs))
 
-  -- the part that is read as the bytes kept
-  abbrev lent : List ℕ
-  lent = take (10 + get_or bs 8 0 - 10) (drop 10 bs)
-
   module _ {o : ℕ} (e : o ≡ le 8 bs 0) where
     -- their offset is odd
     pub unfit_odd : o % 2 ≡ 1 → Brings bs (Err BadCarry)
     unfit_odd h = unfit-shown (λ a. omega (arith, could-even (shown bs) a.could))
 
     -- the one form of what they say, and whether they start with it
-    module _ {form : List ℕ} (l : LaidOut (record { offset = o; kept = lent; stopped = eqb (get_or bs 9 0) 1 }) form) {r : Bool}
-        (d : r ≡ starts_with eqb bs form) where
+    module _ {lent : List ℕ} (of : lent ≡ kept_in bs (get_or bs 8 0)) {form : List ℕ}
+        (l : LaidOut (record { offset = o; kept = lent; stopped = eqb (get_or bs 9 0) 1 }) form) {r : Bool} (d : r ≡ starts_with eqb bs form) where
       form_is : form ≡ carry_written (shown bs)
       form_is =
-          l.is ∙ ap₂ (λ (x : ℕ) (y : List ℕ). carry_written (record { offset = x; kept = y; stopped = eqb (get_or bs 9 0) 1 })) e (kept-part bs (get_or bs 8 0))
+          l.is ∙ ap₂ (λ (x : ℕ) (y : List ℕ). carry_written (record { offset = x; kept = y; stopped = eqb (get_or bs 9 0) 1 })) e of
 
       form_long : get_or bs 8 0 ≤ most_kept → length form ≡ carry_bytes
       form_long h = ap length form_is ∙ carry-length (shown bs) (omega (arith, few-kept))
@@ -129,7 +124,7 @@ module _ (bs : List ℕ) where
         -- of a stream that has stopped
         pub brings_stopped : get_or bs 9 0 ≡ 1 → {q : Result Brought Turned} → Halts o lent q → Brings bs q
         brings_stopped s {q} h =
-            let g : Halts (shown bs).offset k q = subst (λ (x : List ℕ). Halts (shown bs).offset x q) (kept-part bs (get_or bs 8 0)) (rw e at h) in
+            let g : Halts (shown bs).offset k q = subst (λ (x : List ℕ). Halts (shown bs).offset x q) of (rw e at h) in
             go (null k && leb ((shown bs).offset + 2) last_offset) refl g.is
           where
             t : eqb (get_or bs 9 0) 1 ≡ true
@@ -152,7 +147,7 @@ module _ (bs : List ℕ) where
         -- of one that goes on
         pub brings_going : (get_or bs 9 0 ≡ 1 → ⊥) → {q : Result Brought Turned} → GoesOn o lent q → Brings bs q
         brings_going s {q} h =
-            let g : GoesOn (shown bs).offset k q = subst (λ (x : List ℕ). GoesOn (shown bs).offset x q) (kept-part bs (get_or bs 8 0)) (rw e at h) in
+            let g : GoesOn (shown bs).offset k q = subst (λ (x : List ℕ). GoesOn (shown bs).offset x q) of (rw e at h) in
             go (waits (spot_at k 0) && leb ((shown bs).offset + length k) last_offset) refl g.is
           where
             t : eqb (get_or bs 9 0) 1 ≡ false

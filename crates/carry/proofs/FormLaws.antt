@@ -3,7 +3,7 @@
 use mathlib.Core.Path.{◌≡◌, refl, sym, ap, ap₂, ◌∙◌}
 use mathlib.Core.Bool.{Bool, true, false}
 use mathlib.Core.List.{List, ◌∷◌, ◌++◌, append-nil}
-use Prim.Native.Nat.{ℕ, zero, suc, ◌+◌, ◌-◌, ◌%◌, ◌≤◌}
+use Prim.Native.Nat.{ℕ, zero, suc, ◌-◌, ◌%◌, ◌≤◌}
 use native.Mathlib.Nat.{sub-zero, zero-sub, suc-sub-suc}
 use native.Mathlib.Omega.{arith}
 use lib.ListN.{length, take, drop, replicate}
@@ -13,7 +13,7 @@ use Rattle.cells.specs.Cells.{put_le}
 use Rattle.rules.specs.Parts.{bit}
 use Rattle.rules.specs.Bytes.{bytes_of}
 use Rattle.rules.specs.Carry.{carry_bytes, kept_room, carry_written}
-use Rattle.carry.specs.Carries.{kept_in, LaidOut}
+use Rattle.carry.specs.Carries.{LaidOut}
 
 -- ---- laid out over zeros
 
@@ -62,7 +62,3 @@ module _ (o : ℕ) (t : Bool) (k : List ℕ) where
         is = ap₂ (λ (l p : List ℕ). take 10 l ++ (p ++ drop kept_room (drop 10 l))) front (f ∙ behind_is front)
             ∙ ap (λ (l : List ℕ). bytes_of 8 o ++ (length k ∷ bit t ∷ l)) (append-nil (k ++ zeros (kept_room - length k)));
       }
-
--- the part that a range of so many bytes lends
-pub kept-part : (bs : List ℕ) (n : ℕ) → take (10 + n - 10) (drop 10 bs) ≡ kept_in bs n
-kept-part bs n = let m : 10 + n - 10 ≡ n = omega arith in ap (λ (i : ℕ). take i (drop 10 bs)) m

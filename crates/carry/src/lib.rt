@@ -92,6 +92,14 @@ fn judge_going(offset: u64, kept: &[u8]) -> Result<Brought, Turned>
     }
 }
 
+// The bytes kept, in the bytes lent: so many.
+pub fn kept(carry: &[u8], count: usize) -> &[u8]
+    requires { (carry_bytes ≤ length carry.now) × (count ≤ most_kept) }
+    ensures { result.now ≡ kept_in carry.now count }
+{
+    &carry[KEPT_AT..KEPT_AT + count]
+}
+
 // What the bytes lent say; or they are no record that a feed could have left. They are the one form of what they say: nothing else stands in them.
 pub fn read(carry: &[u8]) -> Result<Brought, Turned>
     ensures { Brings carry.now result }
@@ -103,7 +111,7 @@ pub fn read(carry: &[u8]) -> Result<Brought, Turned>
     if MOST_KEPT < count {
         return Err(Turned::BadCarry);
     }
-    let kept = &carry[KEPT_AT..KEPT_AT + count];
+    let kept = kept(carry, count);
     let offset = cells::get::<8>(carry, 0);
     let stopped = carry[STOPPED_AT] == 1;
     if !carry.starts_with(&written(offset, stopped, kept)) {
@@ -129,14 +137,6 @@ fn fill_head(kept: &[u8], piece: &[u8], head: &mut [u8]) -> usize
     cells::copy(kept, head);
     cells::copy(&piece[..more], &mut head[count..]);
     count + more
-}
-
-// The bytes kept, in the bytes lent: as many as `read` said.
-pub fn kept(carry: &[u8], count: usize) -> &[u8]
-    requires { (carry_bytes ≤ length carry.now) × (count ≤ most_kept) }
-    ensures { result.now ≡ kept_in carry.now count }
-{
-    &carry[KEPT_AT..KEPT_AT + count]
 }
 
 // The record that the bytes kept begin, put together in the buffer with the piece's first bytes.

@@ -5,6 +5,9 @@
  * leaves it, for tools that read stores. */
 #include "common.h"
 
+#include <math.h>
+#include <xmmintrin.h>
+
 /* ---- calls */
 
 /* Runs a call, and checks what holds of every call: *detail is written, and a refusal changes nothing. */
@@ -224,6 +227,23 @@ static void surplus_is_untouched(void)
     free(s.bytes);
 }
 
+/* A creation compares its ratios, and calculates with none that it refuses: a host may have invalid operations trapped, and 0.0 times an infinity, or one
+ * taken from itself, is such an operation. The processor keeps in bit 0 whether there was one. The proof knows of no such bit. */
+static void refused_ratios_only_compared(void)
+{
+    static const double ratios[] = {INFINITY, -INFINITY, NAN, -1.0};
+    struct buffer s = block(MAPCACHE_STORE_BYTES, 0xA5);
+    unsigned int invalid = 0;
+    for (size_t i = 0; i < sizeof ratios / sizeof *ratios; i++) {
+        _mm_setcsr(_mm_getcsr() & ~0x3Fu);
+        int refused = mapcache_create(10, ratios[i], 0.9, s.bytes, s.len) == -MAPCACHE_SMALL_RATIO_BAD &&
+                      mapcache_create(10, 0.1, ratios[i], s.bytes, s.len) == -MAPCACHE_GHOST_RATIO_BAD;
+        invalid |= !refused || (_mm_getcsr() & 1) != 0;
+    }
+    CHECK(!invalid);
+    free(s.bytes);
+}
+
 /* ---- random calls: every pair that went in is resident or was handed out */
 
 #define CALL 12
@@ -326,6 +346,7 @@ int main(int argc, char **argv)
     clear_and_largest();
     recorded_steps(argv[1]);
     surplus_is_untouched();
+    refused_ratios_only_compared();
     random_calls(calls);
     printf("c host: %lu checks, %lu failed\n", checks, failures);
     return failures != 0 || checks == 0;

@@ -33,11 +33,13 @@ pub struct Limits {
     pub ghost_limit: u64,
 }
 
-// Whether x is no ratio: a NaN, an infinity, or below zero. -0.0 is not below 0.0.
+// Whether x is no ratio: a NaN, an infinity, or below zero. -0.0 is not below 0.0, and a NaN is below nothing,
+// the infinity 1.0 / 0.0 included. It only compares: `is_finite` takes x from itself, which for an infinity is an invalid operation,
+// and a host may have those trapped.
 fn bad_ratio(x: f64) -> bool
     ensures { result ≡ is_bad_ratio x }
 {
-    !x.is_finite() || x < 0.0
+    x < 0.0 || !(x < 1.0 / 0.0)
 }
 
 // The whole number nearest to the size of x, halves up, worked out from the bits. It is cut off at 2^52.
@@ -131,7 +133,7 @@ fn decode(s: &[u8], at: usize) -> Settings
 pub fn read_settings(s: &[u8]) -> Option<Settings>
     ensures { asked_of result ≡ settings_of s.now }
 {
-    if s.len() < SETTINGS_BYTES || !s.starts_with(&CF) {
+    if s.len() < SETTINGS_BYTES || s[0] != CF[0] || s[1] != CF[1] {
         return None;
     }
     Some(decode(s, 2))

@@ -9,10 +9,8 @@ use native.Mathlib.Omega.{arith}
 use lib.Dec.{eqb, leb}
 use lib.ListN.{length, get_or, take, drop, length-take, length-drop}
 use lib.Seq.{length-take-le}
-use lib.Pointwise.{bytes_decides}
 use borrow.Author.Tests.{eq-eqb, ne_eqb, leb-true, le-leb}
 use Rattle.std.specs.Prelude.{Result, Ok, Err}
-use Rattle.std.specs.List.{starts_with}
 use Rattle.rules.specs.declared.Turned.{Turned}
 use Rattle.rules.specs.declared.Turned.TheVariants.{BadCarry}
 use Rattle.rules.specs.Parts.{null}
@@ -21,7 +19,7 @@ use Rattle.cells.specs.Cells.{le}
 use Rattle.rules.specs.Bytes.{spot_at, reading_at}
 use Rattle.rules.proofs.CouldLaws.{and_both, and-true, waits-few, nothing-kept, could-even, could-stop, could-wait, could-few, stop-could, wait-could}
 use Rattle.rules.proofs.HeadLaws.{pending, read-pending}
-use Rattle.rules.proofs.CarryLaws.{carry-length, shown, only-shown, count-shown}
+use Rattle.rules.proofs.CarryLaws.{shown, only-shown, count-shown}
 use Rattle.wire.specs.declared.Stop.{Stop}
 use Rattle.wire.specs.declared.Stop.TheVariants.{Whole, Unknown, Cut}
 use Rattle.wire.specs.declared.Request.{Request as Request·}
@@ -81,10 +79,6 @@ module _ (bs : List ℕ) where
   unfit-shown : (CarryAs bs (shown bs) → ⊥) → Brings bs (Err BadCarry)
   unfit-shown h = none (λ c a. h (subst (CarryAs bs) (only-shown a) a))
 
-  -- the bytes kept are as many as they say, or fewer
-  few-kept : length (shown bs).kept ≤ get_or bs 8 0
-  few-kept = omega (arith, length-take (get_or bs 8 0) (drop 10 bs))
-
   module _ {o : ℕ} (e : o ≡ le 8 bs 0) where
     -- their offset is odd
     pub unfit_odd : o % 2 ≡ 1 → Brings bs (Err BadCarry)
@@ -92,21 +86,15 @@ module _ (bs : List ℕ) where
 
     -- the one form of what they say, and whether they start with it
     module _ {lent : List ℕ} (of : lent ≡ kept_in bs (get_or bs 8 0)) {form : List ℕ}
-        (l : LaidOut (record { offset = o; kept = lent; stopped = eqb (get_or bs 9 0) 1 }) form) {r : Bool} (d : r ≡ starts_with eqb bs form) where
+        (l : LaidOut (record { offset = o; kept = lent; stopped = eqb (get_or bs 9 0) 1 }) form) {r : Bool}
+        (d : (r ≡ true → take carry_bytes bs ≡ form) × (take carry_bytes bs ≡ form → r ≡ true)) where
       form_is : form ≡ carry_written (shown bs)
       form_is =
           l.is ∙ ap₂ (λ (x : ℕ) (y : List ℕ). carry_written (record { offset = x; kept = y; stopped = eqb (get_or bs 9 0) 1 })) e of
 
-      form_long : get_or bs 8 0 ≤ most_kept → length form ≡ carry_bytes
-      form_long h = ap length form_is ∙ carry-length (shown bs) (omega (arith, few-kept))
-
       -- they do not
       pub unfit-form : r ≡ false → Brings bs (Err BadCarry)
-      unfit-form f =
-          unfit-shown (λ a.
-          let n = form_long (omega (arith, count-shown a, could-few (shown bs) a.could)) in
-          let w : take (length form) bs ≡ form = ap (λ (i : ℕ). take i bs) n ∙ a.written ∙ sym form_is in
-          true≢false (sym (d ∙ (bytes_decides form (take (length form) bs)).1 (sym w)) ∙ f))
+      unfit-form f = unfit-shown (λ a. true≢false (sym (d.1 (a.written ∙ sym form_is)) ∙ f))
 
       -- they do: all that both judgements have before them
       module _ (long : carry_bytes ≤ length bs) (few : get_or bs 8 0 ≤ most_kept) (f : r ≡ true) (odd : o % 2 ≡ 1 → ⊥) where
@@ -118,8 +106,7 @@ module _ (bs : List ℕ) where
         two = omega arith
 
         same : take carry_bytes bs ≡ carry_written (shown bs)
-        same =
-            ap (λ (i : ℕ). take i bs) (sym (form_long few)) ∙ sym ((bytes_decides form (take (length form) bs)).0 (sym d ∙ f)) ∙ form_is
+        same = d.0 f ∙ form_is
 
         -- of a stream that has stopped
         pub brings_stopped : get_or bs 9 0 ≡ 1 → {q : Result Brought Turned} → Halts o lent q → Brings bs q

@@ -114,7 +114,10 @@ pub fn read(carry: &[u8]) -> Result<Brought, Turned>
     let kept = kept(carry, count);
     let offset = cells::get::<8>(carry, 0);
     let stopped = carry[STOPPED_AT] == 1;
-    if !carry.starts_with(&written(offset, stopped, kept)) {
+    if !cells::same(
+        &carry[..rules::CARRY_BYTES],
+        &written(offset, stopped, kept),
+    ) {
         return Err(Turned::BadCarry);
     }
     if offset % 2 == 1 {

@@ -1,18 +1,16 @@
 -- The laws of what a call wrote: the output, and behind it one byte throughout.
 -- Assumes nothing.
 use mathlib.Core.Path.{◌≡◌, refl, sym, ap, ap₂, ◌∙◌}
-use mathlib.Core.Bool.{Bool, true, false, true≢false, ◌&&◌}
+use mathlib.Core.Bool.{Bool, true, false, ◌&&◌}
 use mathlib.Core.List.{List, [], ◌∷◌, ◌++◌}
 use Prim.Native.Nat.{ℕ, zero, suc, ◌-◌, ◌≤◌}
 use native.Mathlib.Omega.{arith}
 use lib.ListN.{length, take, drop, replicate, length-take, length-drop, take-append-drop}
-use lib.Pointwise.{bytes_decides}
-use lib.Seq.{take_all, take_at, drop_at}
+use lib.Seq.{take_all, drop_at}
 use borrow.Author.Tests.{eq-eqb, eqb-true}
-use Rattle.std.specs.Prelude.{nat_eq, ◌==◌}
-use Rattle.std.specs.List.{list_all, starts_with}
+use Rattle.std.specs.Prelude.{◌==◌}
+use Rattle.std.specs.List.{list_all}
 use Rattle.cells.specs.Decides.{Decides}
-use Rattle.cells.proofs.DecidesLaws.{refuse}
 use Rattle.recorded.specs.Compared.{unwritten, WroteOnly}
 
 -- ---- one byte throughout
@@ -30,19 +28,6 @@ all-same v (x ∷ xs) e =
 same-all : (v n : ℕ) → list_all (λ b. b == v) (replicate n v) ≡ true
 same-all v zero = refl
 same-all v (suc n) = rw (eq-eqb v v refl) (same-all v n)
-
--- ---- what starts with bytes
-
-module _ (out w : List ℕ) {r : Bool} (e : r ≡ starts_with nat_eq out w) where
-  pub starts_is : r ≡ true → take (length w) out ≡ w
-  starts_is t = sym ((bytes_decides w (take (length w) out)).0 (sym e ∙ t))
-
-  in-front : WroteOnly out w → take (length w) out ≡ w
-  in-front q = ap (λ (l : List ℕ). take (length w) l) q.is ∙ take_at w (replicate (length out - length w) unwritten) (length w) refl
-
-  -- without them it was not the output that was written
-  pub wrote-other : r ≡ false → Decides (WroteOnly out w) r
-  wrote-other f = rw f (refuse (λ q. true≢false (sym ((bytes_decides w (take (length w) out)).1 (sym (in-front q))) ∙ sym e ∙ f)))
 
 -- ---- behind the output
 

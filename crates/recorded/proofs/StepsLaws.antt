@@ -1,10 +1,12 @@
 -- The laws of steps and cases: what was compared with the store as it was kept, and with replies that were untouched.
 -- Assumes nothing.
-use mathlib.Core.Path.{◌≡◌, sym, ap, subst, ◌∙◌}
+use mathlib.Core.Path.{◌≡◌, refl, sym, ap, subst, ◌∙◌}
 use mathlib.Core.Bool.{Bool}
-use mathlib.Core.List.{List}
+use mathlib.Core.List.{List, ◌++◌, append-nil}
 use Prim.Native.Nat.{ℕ, ◌≤◌}
-use lib.ListN.{length, replicate}
+use native.Mathlib.Omega.{arith}
+use lib.ListN.{length, take, drop, replicate, drop_of_length-le}
+use lib.Seq.{take-length}
 use Rattle.std.specs.Prelude.{Option, Some}
 use Rattle.cells.specs.Decides.{Decides}
 use Rattle.rules.specs.Sizing.{settings_of}
@@ -15,6 +17,10 @@ use Rattle.recorded.specs.declared.Told.{Told}
 use Rattle.recorded.specs.declared.Step.{Step}
 use Rattle.recorded.specs.Compared.{unwritten, CreatedAsWritten, CaseAsWritten}
 use Rattle.recorded.specs.Steps.{CreatedIn, RanIn, CreateStepped, creates, CaseRun}
+
+-- what was copied is all there was
+pub copied : (s b : List ℕ) {b' : List ℕ} → length s ≡ length b → b' ≡ take (length s) s ++ drop (length s) b → b' ≡ s
+copied s b h e = e ∙ rw (take-length s, drop_of_length-le b {i = length s} (omega arith), append-nil s) refl
 
 pub create-called : {s : Step} {q store before store' : List ℕ} {read : Option Settings} {settings : Settings} {t : Told} {r : Bool} → s.store ≤ length store
     → read ≡ Some settings → asked_of read ≡ settings_of q → before ≡ store → CreatedIn s.store settings store t store'

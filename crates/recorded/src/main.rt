@@ -142,14 +142,20 @@ fn same_from(a: &[u8], b: &[u8], from: usize) -> bool
 fn all_are(s: &[u8], byte: u8) -> bool
     ensures { result ≡ list_all (λ b. b == byte) s.now }
 {
-    s.iter().all(|b| *b == byte)
+    for i in 0..s.len() {
+        if s[i] != byte {
+            return false;
+        }
+    }
+    true
 }
 
 // Whether out starts with all of wanted, and the rest of it is untouched.
 fn wrote_only(out: &[u8], wanted: &[u8]) -> bool
     ensures { Decides (WroteOnly out.now wanted.now) result }
 {
-    out.starts_with(wanted) && all_are(&out[wanted.len()..], UNTOUCHED)
+    let n = wanted.len();
+    n <= out.len() && cells::same(&out[..n], wanted) && all_are(&out[n..], UNTOUCHED)
 }
 
 // Makes all bytes for replies untouched.
@@ -240,7 +246,7 @@ impl Bench {
         if self.store.len() < s.store {
             return false;
         }
-        self.before.copy_from_slice(&self.store);
+        cells::copy(&self.store, &mut self.before);
         match sizing::read_settings(input) {
             None => false,
             Some(settings) => {
@@ -254,7 +260,7 @@ impl Bench {
     fn prepare(&mut self)
         ensures { Prepared self.old.store (length self.old.out) self.new.before self.new.out × (self.new.store ≡ self.old.store) }
     {
-        self.before.copy_from_slice(&self.store);
+        cells::copy(&self.store, &mut self.before);
         clear(&mut self.out);
     }
 

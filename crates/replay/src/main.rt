@@ -121,17 +121,14 @@ fn replay<S: io::Read, R: Print + Eprint>(from: &mut S, rt: &R) {
 
 // The one argument that the program knows asks for its version.
 fn tell<R: Print + Eprint>(rt: &R, argument: &[u8]) {
-    match argument {
-        b"--version" => {
-            let _ = rt.write_all(b"mapcache-replay ");
-            let _ = rt.write_all(&S3FifoCache::VERSION);
-            let _ = rt.write_all(b"\n");
-        }
-        _ => {
-            let _ = eprintln!(rt;
-                "replay: it reads standard input and writes standard output; its only argument is --version"
-            );
-        }
+    if cells::same(argument, b"--version") {
+        let _ = rt.write_all(b"mapcache-replay ");
+        let _ = rt.write_all(&S3FifoCache::VERSION);
+        let _ = rt.write_all(b"\n");
+    } else {
+        let _ = eprintln!(rt;
+            "replay: it reads standard input and writes standard output; its only argument is --version"
+        );
     }
 }
 

@@ -8,8 +8,8 @@ ruleset laws = (rules, unfit-count, unfit-form, unfit_odd, brings_stopped, bring
 pub returns-then-count-gt-MOST_KEPT : goal.returns-then-count-gt-MOST_KEPT
 returns-then-count-gt-MOST_KEPT c = search laws
 
-pub returns-then-not-starts_with : goal.returns-then-not-starts_with
-returns-then-not-starts_with c = search laws
+pub returns-then-not-same : goal.returns-then-not-same
+returns-then-not-same c = search laws
 
 pub returns-then-offset-eq1 : goal.returns-then-offset-eq1
 returns-then-offset-eq1 c = search laws

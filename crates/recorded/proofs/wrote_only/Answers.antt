@@ -1,11 +1,13 @@
 -- `recorded::wrote_only` meets its contract.
-use Rattle.recorded.proofs.ComparedLaws.{starts_is, wrote-rest, wrote-other}
+use borrow.Author.Rules.{rules}
+use Rattle.recorded.proofs.ComparedLaws.{wrote-rest}
 use Rattle.recorded.proofs.wrote_only.Goals as goal
+use Rattle.recorded.proofs.wrote_only.Goals.{then-n-out, else-n-out}
 
-pub returns-then-starts_with : goal.returns-then-starts_with
-returns-then-starts_with c =
-    wrote-rest c.args.out.now c.args.wanted.now (c.starts_with.ensures.bound c.if-starts_with.true)
-    (starts_is c.args.out.now c.args.wanted.now c.starts_with.ensures.value c.if-starts_with.true) c.all_are.ensures
+ruleset laws = (rules, wrote-rest)
 
-pub returns-else-starts_with : goal.returns-else-starts_with
-returns-else-starts_with c = wrote-other c.args.out.now c.args.wanted.now c.starts_with.ensures.value c.if-starts_with.false
+pub returns-then-same : goal.returns-then-same
+returns-then-same c = elim c.if-n-out.branch [
+  | then-n-out w ↦ search laws
+  | else-n-out w ↦ search laws
+]

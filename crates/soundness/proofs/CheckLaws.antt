@@ -3,10 +3,11 @@
 use mathlib.Core.Path.{◌≡◌, sym, ap, ◌∙◌, subst}
 use mathlib.Core.Bool.{Bool, true, false, not}
 use mathlib.Core.List.{List}
-use Prim.Native.Nat.{ℕ, ◌+◌, ◌≤◌}
+use Prim.Native.Nat.{ℕ, ◌+◌, ◌-◌, ◌≤◌, ◌<◌}
 use native.Mathlib.Omega.{arith}
+use lib.Dec.{leb}
 use lib.ListN.{length}
-use borrow.Author.Tests.{not-true, not-false}
+use borrow.Author.Tests.{not-true, not-false, leb-true, leb-false}
 use Rattle.cells.specs.Cells.{Bytes}
 use Rattle.cells.specs.Decides.{Decides, All}
 use Rattle.cells.proofs.DecidesLaws.{refuse, decides_map}
@@ -43,6 +44,22 @@ module _ {L : Limits} where
 
 pub sums : (σ : State) → residents σ ≡ length σ.small + length σ.main
 sums σ = omega (arith, length-total σ.small, length-total σ.main)
+
+-- the tests in their order, and what each says where it is the last
+module _ {σ : State} {a m : ℕ} (ra : a ≡ σ.limits.capacity) (rm : m ≡ length σ.small) where
+  pub small_crowded : a < m → Decides (Few σ) false
+  small_crowded h = refuse (λ k. omega (arith, k.within, sums σ))
+
+  module _ {n : ℕ} (rn : n ≡ length σ.main) where
+    pub main_crowded : m ≤ a → a - m < n → Decides (Few σ) false
+    main_crowded i h = refuse (λ k. omega (arith, k.within, sums σ))
+
+    pub few_decides : m ≤ a → n ≤ a - m → {g l : ℕ} → l ≡ σ.limits.ghost_limit → g ≡ length σ.ghosts → Decides (Few σ) (leb g l)
+    few_decides i h {g} {l} rl rg =
+        record {
+          holds = λ e. record { within = omega (arith, sums σ); few_ghosts = omega (arith, leb-true g l e) };
+          fails = λ e k. omega (arith, leb-false g l e, k.few_ghosts);
+        }
 
 -- ---- at one shape
 

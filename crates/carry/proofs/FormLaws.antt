@@ -48,14 +48,14 @@ module _ (o : ℕ) (t : Bool) (k : List ℕ) where
       ap behind e ∙ ap (λ (l : List ℕ). l ++ drop (length k) (zeros kept_room)) (take-length k) ∙ ap (λ (z : List ℕ). k ++ z) (fewer-zeros (length k) kept_room)
 
   -- four writes lay the record out
-  pub laid_out : {s₁ s₂ s₃ part : List ℕ} → length k ≤ kept_room → s₁ ≡ put_le 8 (zeros carry_bytes) 0 o → s₂ ≡ put_le 1 s₁ 8 (length k)
+  pub laid_out : {z s₁ s₂ s₃ part : List ℕ} → length k ≤ kept_room → z ≡ zeros carry_bytes → s₁ ≡ put_le 8 z 0 o → s₂ ≡ put_le 1 s₁ 8 (length k)
       → s₃ ≡ put_le 1 s₂ 9 (bool_byte t) → part ≡ behind s₃
       → LaidOut (record { offset = o; kept = k; stopped = t }) (take 10 s₃ ++ (part ++ drop kept_room (drop 10 s₃)))
   unfolding carry_written bytes_of
-  laid_out {s₁} {s₂} {s₃} {part} h a b d f =
+  laid_out {s₁ = s₁} {s₂} {s₃} {part} h z a b d f =
       let n : length k % 256 ≡ length k = omega arith in
       let writes : s₃ ≡ put_le 1 (put_le 1 (put_le 8 (zeros carry_bytes) 0 o) 8 (length k)) 9 (bool_byte t) =
-      d ∙ ap (λ (l : List ℕ). put_le 1 l 9 (bool_byte t)) (b ∙ ap (λ (l : List ℕ). put_le 1 l 8 (length k)) a) in
+      d ∙ ap (λ (l : List ℕ). put_le 1 l 9 (bool_byte t)) (b ∙ ap (λ (l : List ℕ). put_le 1 l 8 (length k)) (a ∙ ap (λ (l : List ℕ). put_le 8 l 0 o) z)) in
       let front : s₃ ≡ bytes_of 8 o ++ (length k ∷ bit t ∷ zeros kept_room) =
       writes ∙ numbers o (length k) (bool_byte t) ∙ ap₂ (λ (x y : ℕ). bytes_of 8 o ++ (x ∷ y ∷ zeros kept_room)) n (bit_byte t) in
       record {

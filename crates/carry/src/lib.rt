@@ -2,7 +2,7 @@
 // cut put together with the start of the next piece. It knows no store and no engine.
 #![tactic(auto)]
 
-ghost use Rattle.std.specs.Prelude.{◌≡◌, true, ◌+◌, ◌≤◌, length, drop};
+ghost use Rattle.std.specs.Prelude.{◌≡◌, true, ◌+◌, ◌≤◌, length, drop, replicate};
 ghost use Rattle.rules.specs.Bytes.{longest_record, spot_at};
 ghost use Rattle.rules.specs.Carry.{most_kept, waits, carry_bytes, kept_room};
 ghost use Rattle.carry.specs.Carries.{kept_in, LaidOut, Halts, GoesOn, Brings, CarryPut};
@@ -43,17 +43,15 @@ pub enum Head {
     Unknown,
 }
 
-// The record as bytes: what is kept, over zeros.
-fn written(offset: u64, stopped: bool, kept: &[u8]) -> [u8; rules::CARRY_BYTES]
-    requires { length kept.now ≤ kept_room }
-    ensures { LaidOut (record { offset = offset; kept = kept.now; stopped = stopped }) result }
+// Lays the record out over zeros, where it is wanted: an array that a function hands out is copied once more.
+fn lay_out(form: &mut [u8; rules::CARRY_BYTES], offset: u64, stopped: bool, kept: &[u8])
+    requires { (form.old ≡ replicate carry_bytes 0) × (length kept.now ≤ kept_room) }
+    ensures { LaidOut (record { offset = offset; kept = kept.now; stopped = stopped }) form.new }
 {
-    let mut form = [0u8; rules::CARRY_BYTES];
-    cells::put::<8>(&mut form, 0, offset);
-    cells::put::<1>(&mut form, COUNT_AT, kept.len() as u64);
-    cells::put::<1>(&mut form, STOPPED_AT, stopped as u64);
+    cells::put::<8>(form, 0, offset);
+    cells::put::<1>(form, COUNT_AT, kept.len() as u64);
+    cells::put::<1>(form, STOPPED_AT, stopped as u64);
     cells::copy(kept, &mut form[KEPT_AT..]);
-    form
 }
 
 // Writes the record. The bytes kept are those of `from` from `at` on; whether the stream has stopped is a byte of the record like the others.
@@ -61,7 +59,8 @@ pub fn put(carry: &mut [u8], offset: u64, stopped: bool, from: &[u8], at: usize)
     requires { (carry_bytes ≤ length carry.old) × (at ≤ length from.now) × (length from.now ≤ at + kept_room) }
     ensures { CarryPut carry.old (record { offset = offset; kept = drop at from.now; stopped = stopped }) carry.new }
 {
-    let form = written(offset, stopped, &from[at..]);
+    let mut form = [0u8; rules::CARRY_BYTES];
+    lay_out(&mut form, offset, stopped, &from[at..]);
     cells::copy(&form, carry);
 }
 
@@ -114,10 +113,9 @@ pub fn read(carry: &[u8]) -> Result<Brought, Turned>
     let kept = kept(carry, count);
     let offset = cells::get::<8>(carry, 0);
     let stopped = carry[STOPPED_AT] == 1;
-    if !cells::same(
-        &carry[..rules::CARRY_BYTES],
-        &written(offset, stopped, kept),
-    ) {
+    let mut form = [0u8; rules::CARRY_BYTES];
+    lay_out(&mut form, offset, stopped, kept);
+    if !cells::same(&carry[..rules::CARRY_BYTES], &form) {
         return Err(Turned::BadCarry);
     }
     if offset % 2 == 1 {

@@ -1,7 +1,7 @@
--- `carry::written` meets its contract.
+-- `carry::lay_out` meets its contract.
 use borrow.Author.Rules.{rules}
 use Rattle.carry.proofs.FormLaws.{laid_out}
-use Rattle.carry.proofs.written.Goals as goal
+use Rattle.carry.proofs.lay_out.Goals as goal
 
 ruleset laws = (rules, laid_out)
 
